@@ -14,7 +14,7 @@ use Rattle.pl_elf.specs.declared.section.Section.{Section}
 use Rattle.pl_elf.specs.declared.segment.Segment.{Segment}
 use Rattle.pl_dyn.specs.Read.{value_of}
 use Rattle.pl_dyn.specs.declared.tags.Tag.{Tag}
-use Rattle.pl_hash.specs.declared.table.Table.{Table}
+use Rattle.pl_hash.specs.Table.{HashTable}
 use Rattle.pl_relr.specs.Places as packed
 use Rattle.pl_sym.specs.declared.symbol.Symbol as read
 use Rattle.pl_object.specs.FilePart.{nothing, loads_byte, loaded_by, file_window, in_file_part, loaded}
@@ -299,7 +299,7 @@ relocations_are r bytes ss sections e tags m few_all held told =
     ∙ ap (λ (l : List ℕ). first ++ next ++ packed_relocs bytes ss l) (none_packed bytes ss tags told.packed)
     ∙ append-nil (first ++ next)
 
-layout_with : List Table → List Reloc → ℕ → List Window → Layout
+layout_with : List HashTable → List Reloc → ℕ → List Window → Layout
 layout_with hashes rs n windows = record { hashes = hashes; relocations = rs; packed = n; windows = windows }
 
 layout_is : (r : Recipe) (bytes : List ℕ) (t : Tables) (e : Extents) → IsModest r → length (plan_of r).symbols + 1 < 2 ^ 32 → AreHeld r bytes (planned_segments (plan_of r) t) e → TablesAreTaken r bytes t e
@@ -318,7 +318,7 @@ layout_is r bytes t e m few_all held taken =
     (λ there. ap (loaded bytes ss) (told.gnu_hash ∙ ap (λ (b : Bool). memory_if b e.gnu_hash) there) ∙ held.gnu_hash there) in
     let rs : List Reloc = relocations bytes ss tags (planned_symbols p) in
     let n : ℕ = length (packed_places bytes ss tags) in
-    ap (λ (h : List Table). layout_with h rs n ws) hashes
+    ap (λ (h : List HashTable). layout_with h rs n ws) hashes
     ∙ ap (λ (l : List Reloc). layout_with (planned_hashes r) l n ws) (relocations_are r bytes ss sections e tags m few_all held told)
     ∙ ap (λ (l : List ℕ). layout_with (planned_hashes r) (planned_relocs p) (length l) ws) (none_packed bytes ss tags told.packed)
 

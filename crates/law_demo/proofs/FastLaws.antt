@@ -31,7 +31,7 @@ use Rattle.pl_loader.specs.Faults.{of_tls}
 use Rattle.pl_loader.specs.Fast as loader
 use Rattle.pl_loader.specs.Fast.{fast_image, stored_by}
 use Rattle.pl_loader.specs.Loading.{IsLibrary}
-use Rattle.pl_loader.specs.Places.{kept_free, load_range, places, slot_by, taken, taken_first, segments_by}
+use Rattle.pl_loader.specs.Places.{kept_free, load_range, places, slot_by, program_ranges, taken_first, segments_by}
 use Rattle.pl_loader.specs.Started.{Start, block_of, blocks, imaged, linked, load, modules_of, start, start_at, started}
 use Rattle.pl_loader.specs.declared.fault.LoadFault.{LoadFault}
 use Rattle.pl_loader.specs.declared.object_file.Mark.{Mark}
@@ -84,8 +84,8 @@ module _ {E : Type 0} (causes : Causes E) (folder : Files) where
       let read : reads (original_in t.bytes) ≡ Ok f.object = read_is causes f.name (original_in t.bytes) f.object t.is.object in
       record { bears = slot_told t.is.version (mark_at (format.format causes) (folder f.name)) f.mark told marked; some = (paged (original_in t.bytes) f.object read).some library }
 
-  taken_is : (name : List ℕ) (f : ObjectFile) → IsTaken causes folder name f → IsMarkedFile f → taken f ≡ loaded_by (file_at folder f.name)
-  unfolding taken
+  taken_is : (name : List ℕ) (f : ObjectFile) → IsTaken causes folder name f → IsMarkedFile f → program_ranges f ≡ loaded_by (file_at folder f.name)
+  unfolding program_ranges
   taken_is name f t marked =
       let told : mark_at (format.format causes) (folder f.name) ≡ mark_by t.is.version f.mark = ap (mark_at (format.format causes)) t.there ∙ t.is.mark in
       headers_told t.is.version (mark_at (format.format causes) (folder f.name)) f.bytes t.bytes f.object.segments f.mark told marked t.is.stored
@@ -296,7 +296,7 @@ module _ {E G : Type 0} (causes : Causes E) (folder : Files) (fault : LoadFault 
     are_free =
         let clear : are_clear causes folder (loaded_by (file_at folder name) ++ kept_free busy) (Ok (walk_of (program ∷ fs))) ≡ true = sym (ap (are_clear causes folder (loaded_by (file_at folder name) ++ kept_free busy)) are.walks) ∙ c.free in
         let marked : is_marked f folder program.name ≡ true = subst (λ (n : List ℕ). is_marked f folder n ≡ true) (sym are.named) first_marked in
-        let own : taken program ≡ loaded_by (file_at folder name) = taken_is causes folder name program are.first marked ∙ ap (λ (n : List ℕ). loaded_by (file_at folder n)) are.named in
+        let own : program_ranges program ≡ loaded_by (file_at folder name) = taken_is causes folder name program are.first marked ∙ ap (λ (n : List ℕ). loaded_by (file_at folder n)) are.named in
         subst (λ (ts : List Range). AllByRecursion (IsFree (slot causes folder) (ts ++ kept_free busy)) fs) (sym own) (all_free causes folder (loaded_by (file_at folder name) ++ kept_free busy) fs clear)
 
     placed : places choose busy (program ∷ fs) ≡ Ok places_of

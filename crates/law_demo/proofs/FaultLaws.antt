@@ -15,7 +15,7 @@ use Rattle.pl_build.specs.declared.line.Line.{Line}
 use Rattle.pl_build.specs.declared.line.Line.TheVariants.{Empty, First, Hash, Buckets, Needs, Data, Bss, Names, Relocates}
 use Rattle.pl_build.specs.declared.line.Relocation.{Relocation}
 use Rattle.pl_build.specs.declared.line.SymbolLine.{SymbolLine}
-use Rattle.pl_build.specs.Checks.{is_misplaced, is_static, is_wrong, is_over_addend, is_over, writes, wants_version, is_unknown, keyword, is_repeated, lowest_kind, fault_at, is_fault, faults, data_size, first_fault}
+use Rattle.pl_build.specs.Checks.{is_misplaced, is_static_recipe, is_wrong, is_over_addend, is_over, writes, wants_version, is_unknown, keyword, is_repeated, lowest_kind, fault_at, is_fault, faults, data_size, first_fault}
 use Rattle.pl_build.specs.RelocationLines.{is_no_symbol}
 use Rattle.pl_build.specs.Relocations.{is_written_as}
 use Rattle.pl_gen.specs.Draws.{at}
@@ -51,7 +51,7 @@ line_there : (before : List Line) (l : Line) (after : List Line) → slice_get (
 line_there [] l after = refl
 line_there (x ∷ xs) l after = line_there xs l after
 
-spotless_here : (lines before after : List Line) (l : Line) (size : ℕ) → lines ≡ before ++ l ∷ after → (length before == 0) ≡ false → is_static lines ≡ false → IsSpotless lines before l → is_fault (fault_at lines size (length before)) ≡ false
+spotless_here : (lines before after : List Line) (l : Line) (size : ℕ) → lines ≡ before ++ l ∷ after → (length before == 0) ≡ false → is_static_recipe lines ≡ false → IsSpotless lines before l → is_fault (fault_at lines size (length before)) ≡ false
 unfolding fault_at lowest_kind is_wrong
 spotless_here lines before after l size e later static fine =
     let got : slice_get lines (length before) ≡ Some l = ap (λ (ls : List Line). slice_get ls (length before)) e ∙ line_there before l after in
@@ -64,14 +64,14 @@ more_than_none before l = rw (length-append before (l ∷ [])) (not_zero (length
     not_zero : (n : ℕ) → (n + 1 == 0) ≡ false
     not_zero n = grind (arith, nat_tests)
 
-no_faults : (lines before after : List Line) (size : ℕ) → lines ≡ before ++ after → (length before == 0) ≡ false → is_static lines ≡ false → AreSpotless lines before after → find is_fault (map (fault_at lines size) (range_with_len (length before) (length after))) ≡ None
+no_faults : (lines before after : List Line) (size : ℕ) → lines ≡ before ++ after → (length before == 0) ≡ false → is_static_recipe lines ≡ false → AreSpotless lines before after → find is_fault (map (fault_at lines size) (range_with_len (length before) (length after))) ≡ None
 no_faults lines before [] size e later static fine = refl
 no_faults lines before (l ∷ after) size e later static fine =
     let more = no_faults lines (before ++ l ∷ []) after size (e ∙ sym (append_assoc before (l ∷ []) after)) (more_than_none before l) static fine.1 in
     rw (spotless_here lines before after l size e later static fine.0)
     (ap (λ (n : ℕ). find is_fault (map (fault_at lines size) (range_with_len n (length after)))) (sym (length-append before (l ∷ []))) ∙ more)
 
-no_fault : (kind : FileKind) (rest : List Line) → is_static (First kind ∷ rest) ≡ false → AreSpotless (First kind ∷ rest) (First kind ∷ []) rest → first_fault (First kind ∷ rest) ≡ None
+no_fault : (kind : FileKind) (rest : List Line) → is_static_recipe (First kind ∷ rest) ≡ false → AreSpotless (First kind ∷ rest) (First kind ∷ []) rest → first_fault (First kind ∷ rest) ≡ None
 unfolding first_fault faults fault_at lowest_kind is_wrong is_over is_unknown is_repeated keyword
 no_fault kind rest static fine = no_faults (First kind ∷ rest) (First kind ∷ []) rest (data_size (First kind ∷ rest)) refl refl static fine
 
@@ -304,7 +304,7 @@ needing_no_data kind sysv a b c = refl
 
 pub library_faultless : (count i : ℕ) (words : List ℕ) → any_pair is_namesake (own_functions [] 0 (functions words) ++ own_object i ∷ references (functions words) (library_words words)) ≡ false
     → first_fault (library_lines count i words ++ Empty ∷ []) ≡ None
-unfolding library_lines is_static
+unfolding library_lines is_static_recipe
 library_faultless count i words distinct =
     let lines : List Line = library_lines count i words ++ Empty ∷ [] in
     let known : List ℕ = functions words in
@@ -369,7 +369,7 @@ copy_small i = refl
 
 pub program_faultless : (count : ℕ) (words : List ℕ) → any_pair is_namesake (references [] (program_words words) ++ own_object (at words 0 % count) ∷ []) ≡ false
     → first_fault (program_lines count words ++ Empty ∷ []) ≡ None
-unfolding program_lines is_static
+unfolding program_lines is_static_recipe
 program_faultless count words distinct =
     let lines : List Line = program_lines count words ++ Empty ∷ [] in
     let i : ℕ = at words 0 % count in

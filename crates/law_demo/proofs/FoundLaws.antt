@@ -23,7 +23,7 @@ use Rattle.pl_dyn.specs.declared.tags.Tag.{Tag}
 use Rattle.pl_hash.specs.ChainSymbols.{is_chain_symbol, name_hash}
 use Rattle.pl_hash.specs.Chain.{well_formed}
 use Rattle.pl_hash.specs.Hash.{gnu}
-use Rattle.pl_hash.specs.declared.table.Table.{Table}
+use Rattle.pl_hash.specs.Table.{HashTable}
 use Rattle.pl_sym.specs.Definers.{is_linkable, is_definition, is_canonical, is_definer}
 use Rattle.pl_sym.specs.Symbol as seen
 use Rattle.pl_sym.specs.declared.class.Class.TheVariants.{Other}
@@ -106,10 +106,10 @@ unfolding is_definition is_linkable seen.is_absolute seen.is_in_section planned_
 undefined_defines_not p x undefined = rw undefined refl
 
 -- a table that leads to each symbol that is defined
-abbrev Leads : LayoutPlan → Table → Type 0
+abbrev Leads : LayoutPlan → HashTable → Type 0
 Leads p t = (i : ℕ) → i < length p.symbols → (get_or p.symbols i nobody).defined ≡ true → is_chain_symbol t (name_hash t (get_or p.symbols i nobody).name) (i + 1) ≡ true
 
-one_not_missed : (p : LayoutPlan) (t : Table) (i : ℕ) → Leads p t → i < length p.symbols → is_missed t (suc i) (Some (planned_symbol p (get_or p.symbols i nobody))) ≡ false
+one_not_missed : (p : LayoutPlan) (t : HashTable) (i : ℕ) → Leads p t → i < length p.symbols → is_missed t (suc i) (Some (planned_symbol p (get_or p.symbols i nobody))) ≡ false
 unfolding planned_symbol
 one_not_missed p t i leads lt =
     let x : SymbolLine = get_or p.symbols i nobody in
@@ -124,13 +124,13 @@ one_not_missed p t i leads lt =
 symbol_at : (p : LayoutPlan) (i : ℕ) → i < length p.symbols → slice_get (planned_symbols p) (suc i) ≡ Some (planned_symbol p (get_or p.symbols i nobody))
 symbol_at p i lt = slice_get-map (planned_symbol p) p.symbols i ∙ ap (λ (o : Option SymbolLine). option_map (planned_symbol p) o) (slice_get-get_or p.symbols i nobody lt)
 
-index_not_missed : (p : LayoutPlan) (t : Table) (i : ℕ) → Leads p t → i < length (planned_symbols p) → is_missed t i (slice_get (planned_symbols p) i) ≡ false
+index_not_missed : (p : LayoutPlan) (t : HashTable) (i : ℕ) → Leads p t → i < length (planned_symbols p) → is_missed t i (slice_get (planned_symbols p) i) ≡ false
 index_not_missed p t zero leads lt = rw null_defines_not refl
 index_not_missed p t (suc i) leads lt =
     let inside : i < length p.symbols = omega (arith, lt, length-map p.symbols (planned_symbol p)) in
     ap (is_missed t (suc i)) (symbol_at p i inside) ∙ one_not_missed p t i leads inside
 
-complete : (p : LayoutPlan) (t : Table) → well_formed t ≡ true → Leads p t → is_incomplete (planned_symbols p) t ≡ false
+complete : (p : LayoutPlan) (t : HashTable) → well_formed t ≡ true → Leads p t → is_incomplete (planned_symbols p) t ≡ false
 unfolding is_incomplete misses_one
 complete p t formed leads =
     let missed : list_any (λ index. is_missed t index (slice_get (planned_symbols p) index)) (range_with_len 0 (length (planned_symbols p))) ≡ false =
@@ -155,7 +155,7 @@ gnu_complete r plain few has =
     let w : IsGnuWhole (plan_of r) = gnu_whole r (record { has = has; some = plain.settings.some_buckets; count = omega (arith, plain.settings.few_buckets); symbols = few }) in
     complete (plan_of r) (gnu_of (plan_of r)) w.formed (λ i lt defined. w.leads i nobody lt defined)
 
-none_incomplete : (symbols : List read.Symbol) (a b : Bool) (s g : Table) → (a || b) ≡ true → is_incomplete symbols s ≡ false → (b ≡ true → is_incomplete symbols g ≡ false)
+none_incomplete : (symbols : List read.Symbol) (a b : Bool) (s g : HashTable) → (a || b) ≡ true → is_incomplete symbols s ≡ false → (b ≡ true → is_incomplete symbols g ≡ false)
     → hash_incomplete ((if a then s ∷ [] else []) ++ (if b then g ∷ [] else [])) symbols ≡ false
 unfolding hash_incomplete
 none_incomplete symbols true true s g some x y = rw (x, y refl) refl
@@ -169,7 +169,7 @@ hashes_complete r plain m few =
     none_incomplete (planned_symbols (plan_of r)) r.settings.hashes.sysv r.settings.hashes.gnu (sysv_of (plan_of r)) (gnu_of (plan_of r)) m.hashed (sysv_complete r plain few) (λ has. gnu_complete r plain few has)
 
 -- the tables as they are read
-with_words : List ℕ → Bool → ℕ → Table
+with_words : List ℕ → Bool → ℕ → HashTable
 with_words words gnu count = record { words = words; gnu = gnu; symbols = count }
 
 table_read : (bytes : List ℕ) (ss : List Segment) (sections : List Section) (tags : List Tag) (count number addr : ℕ) (gnu there : Bool) (words : List ℕ) → value_of number tags ≡ some_if there addr → (there ≡ true → loaded bytes ss (section_memory number tags sections) ≡ words)
@@ -191,8 +191,8 @@ hashes_read r bytes ss sections tags one two sysv_told gnu_told sysv_held gnu_he
     let a : Bool = r.settings.hashes.sysv in
     let b : Bool = r.settings.hashes.gnu in
     ap (λ (m : ℕ). hash_table bytes ss sections tags m false 4 ++ hash_table bytes ss sections tags m true 0x6ffffef5) (count_is p)
-    ∙ ap (λ (ts : List Table). ts ++ hash_table bytes ss sections tags n true 0x6ffffef5) (table_read bytes ss sections tags n 4 one false a (sysv_of p).words sysv_told sysv_held)
-    ∙ ap (λ (ts : List Table). (if a then with_words (sysv_of p).words false n ∷ [] else []) ++ ts) (table_read bytes ss sections tags n 0x6ffffef5 two true b (gnu_of p).words gnu_told gnu_held)
+    ∙ ap (λ (ts : List HashTable). ts ++ hash_table bytes ss sections tags n true 0x6ffffef5) (table_read bytes ss sections tags n 4 one false a (sysv_of p).words sysv_told sysv_held)
+    ∙ ap (λ (ts : List HashTable). (if a then with_words (sysv_of p).words false n ∷ [] else []) ++ ts) (table_read bytes ss sections tags n 0x6ffffef5 two true b (gnu_of p).words gnu_told gnu_held)
 
 -- ---- clause 22: the order of the symbols is a permutation
 

@@ -21,7 +21,7 @@ use Rattle.pl_hash.specs.ChainSymbols.{matching, chain_symbols, is_chain_symbol}
 use Rattle.pl_hash.specs.Chain.{head, following, is_linked, with_first, chain_from, chain, has_buckets, is_counted, has_links, has_empty_buckets, chains_end, well_formed}
 use Rattle.pl_hash.specs.Hash.{gnu, gnu_step}
 use Rattle.pl_hash.specs.Table.{has_header, buckets_at, chains_at, first_linked, link_at, bucket, link, bloom_word, has_bit, first_bit, second_bit, admits, matches}
-use Rattle.pl_hash.specs.declared.table.Table.{Table}
+use Rattle.pl_hash.specs.Table.{HashTable}
 use Rattle.pl_build.specs.declared.fields.Field.TheVariants.{Word, Xword}
 use Rattle.pl_build.specs.declared.line.SymbolLine.{SymbolLine}
 use Rattle.pl_build.specs.declared.layout_plan.LayoutPlan.{LayoutPlan}
@@ -304,7 +304,7 @@ chain_at count first hashes buckets j lt =
 
 -- ---- the table
 
-abbrev table_of : ℕ → ℕ → List ℕ → List ℕ → Table
+abbrev table_of : ℕ → ℕ → List ℕ → List ℕ → HashTable
 table_of count first hashes buckets = record { words = words_of count first hashes buckets; gnu = true; symbols = first + length hashes }
 
 table_long : (count first : ℕ) (hashes buckets : List ℕ) → length (words_of count first hashes buckets) ≡ 24 + 4 * (count + length hashes)
@@ -338,7 +338,7 @@ bucket_is count first hashes buckets k few lt =
 
 -- ---- a table with these links
 
-pub record IsGnu (t : Table) (first : ℕ) (hashes buckets : List ℕ) : Type 0 where
+pub record IsGnu (t : HashTable) (first : ℕ) (hashes buckets : List ℕ) : Type 0 where
   pub bloomed : t.gnu ≡ true
   pub links : (j : ℕ) → j < length hashes → link t (first + j) ≡ gnu_chain hashes buckets j
   pub linked : (j : ℕ) → j < length hashes → is_linked t (first + j) ≡ true
@@ -420,28 +420,28 @@ chain_half hashes buckets j = elim (cases_Bool (goes_on buckets j)) [
 
 -- ---- one step of a chain
 
-chain_none : (t : Table) (steps : ℕ) → chain_from t steps None ≡ Some []
+chain_none : (t : HashTable) (steps : ℕ) → chain_from t steps None ≡ Some []
 unfolding chain_from
 chain_none t zero = refl
 chain_none t (suc steps) = refl
 
-chain_step : (t : Table) (first : ℕ) (hashes buckets : List ℕ) (steps j : ℕ) (rest : Option (List ℕ)) → IsGnu t first hashes buckets → j < length hashes → chain_from t steps (following t (first + j)) ≡ rest
+chain_step : (t : HashTable) (first : ℕ) (hashes buckets : List ℕ) (steps j : ℕ) (rest : Option (List ℕ)) → IsGnu t first hashes buckets → j < length hashes → chain_from t steps (following t (first + j)) ≡ rest
     → chain_from t (suc steps) (Some (first + j)) ≡ with_first (first + j) rest
 unfolding chain_from
 chain_step t first hashes buckets steps j rest is lt e = rw (is.linked j lt, e) refl
 
-follows_none : (t : Table) (first : ℕ) (hashes buckets : List ℕ) (j : ℕ) → IsGnu t first hashes buckets → j < length hashes → goes_on buckets j ≡ false → following t (first + j) ≡ None
+follows_none : (t : HashTable) (first : ℕ) (hashes buckets : List ℕ) (j : ℕ) → IsGnu t first hashes buckets → j < length hashes → goes_on buckets j ≡ false → following t (first + j) ≡ None
 unfolding following
 follows_none t first hashes buckets j is lt last = rw (is.links j lt, is.bloomed, chain_last hashes buckets j last) refl
 
-follows_some : (t : Table) (first : ℕ) (hashes buckets : List ℕ) (j : ℕ) → IsGnu t first hashes buckets → j < length hashes → goes_on buckets j ≡ true → following t (first + j) ≡ Some (first + (j + 1))
+follows_some : (t : HashTable) (first : ℕ) (hashes buckets : List ℕ) (j : ℕ) → IsGnu t first hashes buckets → j < length hashes → goes_on buckets j ≡ true → following t (first + j) ≡ Some (first + (j + 1))
 unfolding following
 follows_some t first hashes buckets j is lt more =
     let next : first + j + 1 ≡ first + (j + 1) = omega arith in
     rw (is.links j lt, is.bloomed, chain_more hashes buckets j more) (ap (λ (n : ℕ). Some n) next)
 
 -- each chain ends, since its symbols stand one behind the other
-chain_there : (t : Table) (first : ℕ) (hashes buckets : List ℕ) (steps j : ℕ) → IsGnu t first hashes buckets → length buckets ≡ length hashes → j < length hashes → length hashes ≤ j + steps
+chain_there : (t : HashTable) (first : ℕ) (hashes buckets : List ℕ) (steps j : ℕ) → IsGnu t first hashes buckets → length buckets ≡ length hashes → j < length hashes → length hashes ≤ j + steps
     → (rest : List ℕ) × (chain_from t steps (Some (first + j)) ≡ Some ((first + j) ∷ rest))
 chain_there t first hashes buckets zero j is same lt enough = absurd (omega (arith, lt, enough))
 chain_there t first hashes buckets (suc steps) j is same lt enough = elim (cases_Bool (goes_on buckets j)) [
@@ -455,7 +455,7 @@ chain_there t first hashes buckets (suc steps) j is same lt enough = elim (cases
 ]
 
 -- and has each later symbol of its bucket
-chain_holds : (t : Table) (first : ℕ) (hashes buckets : List ℕ) (steps j m : ℕ) → IsGnu t first hashes buckets → length buckets ≡ length hashes → Ascends 0 buckets → j ≤ m → m < length hashes → get_or buckets m 0 ≡ get_or buckets j 0
+chain_holds : (t : HashTable) (first : ℕ) (hashes buckets : List ℕ) (steps j m : ℕ) → IsGnu t first hashes buckets → length buckets ≡ length hashes → Ascends 0 buckets → j ≤ m → m < length hashes → get_or buckets m 0 ≡ get_or buckets j 0
     → length hashes ≤ j + steps → (l : List ℕ) × (chain_from t steps (Some (first + j)) ≡ Some l) × (list_any (λ k. k == first + m) l ≡ true)
 chain_holds t first hashes buckets zero j m is same ascending le lt alike enough = absurd (omega (arith, le, lt, enough))
 chain_holds t first hashes buckets (suc steps) j m is same ascending le lt alike enough = elim (cases_lt j m) [
@@ -492,7 +492,7 @@ head_some count first hashes buckets k few lt one =
 chain_is_there : (count first : ℕ) (hashes buckets : List ℕ) (k : ℕ) → AreFew count first hashes buckets → k < count → is_some (chain (table_of count first hashes buckets) (head (table_of count first hashes buckets) k)) ≡ true
 unfolding chain
 chain_is_there count first hashes buckets k few lt =
-    let t : Table = table_of count first hashes buckets in
+    let t : HashTable = table_of count first hashes buckets in
     let steps : ℕ = first + length hashes in
     elim (first_or_none first buckets k) [
       | inl none ↦ ap (λ (o : Option (List ℕ)). is_some o) (ap (chain_from t steps) (head_none count first hashes buckets k few lt none) ∙ chain_none t steps)
@@ -522,14 +522,14 @@ size_counted count first hashes buckets = ap (λ (n : ℕ). is_power_of_two n) (
 links_there : (count first : ℕ) (hashes buckets : List ℕ) → AreFew count first hashes buckets → has_links (table_of count first hashes buckets) ≡ true
 unfolding has_links
 links_there count first hashes buckets few =
-    let t : Table = table_of count first hashes buckets in
+    let t : HashTable = table_of count first hashes buckets in
     or_right (has_empty_buckets t) (nat_le (link_at t (first + length hashes)) (length t.words))
     (at_most (link_at t (first + length hashes)) (length t.words) (omega (arith, link_place count first hashes buckets (first + length hashes) few, table_long count first hashes buckets)))
 
 ends_there : (count first : ℕ) (hashes buckets : List ℕ) → AreFew count first hashes buckets → chains_end (table_of count first hashes buckets) ≡ true
 unfolding chains_end
 ends_there count first hashes buckets few =
-    let t : Table = table_of count first hashes buckets in
+    let t : HashTable = table_of count first hashes buckets in
     let p : ℕ → Bool = λ k. is_some (chain t (head t k)) in
     ap (λ (n : ℕ). list_all p (range_with_len 0 n)) (count_read count first hashes buckets few.below)
     ∙ all_in_range p 0 count (λ k lt. chain_is_there count first hashes buckets k few (omega (arith, lt)))
@@ -545,7 +545,7 @@ bucket_holds : (count first : ℕ) (hashes buckets : List ℕ) (b i : ℕ) → A
     → (l : List ℕ) × (chain (table_of count first hashes buckets) (head (table_of count first hashes buckets) b) ≡ Some l) × (list_any (λ k. k == first + i) l ≡ true)
 unfolding chain
 bucket_holds count first hashes buckets b i few small lt same =
-    let t : Table = table_of count first hashes buckets in
+    let t : HashTable = table_of count first hashes buckets in
     let steps : ℕ = first + length hashes in
     let one = first_before first buckets b i (omega (arith, lt, few.same)) same in
     let more = chain_holds t first hashes buckets steps one.0.index i (is_gnu count first hashes buckets few) few.same few.ascending one.1 lt (same ∙ sym one.0.same) (omega arith) in
@@ -594,13 +594,13 @@ table_leads : (count first : ℕ) (hashes buckets : List ℕ) (hash i : ℕ) →
     → is_chain_symbol (table_of count first hashes buckets) hash (first + i) ≡ true
 unfolding chain_symbols matching
 table_leads count first hashes buckets hash i few lt is own =
-    let t : Table = table_of count first hashes buckets in
+    let t : HashTable = table_of count first hashes buckets in
     let there = bucket_holds count first hashes buckets (hash % count) i few (mod-lt hash few.some) lt own in
     rw (table_admits count first hashes buckets hash i lt is, count_read count first hashes buckets few.below, there.1) (filter_has (matches t hash) (first + i) there.0 (table_matches count first hashes buckets hash i few lt is) there.2)
 
 -- ---- of a plan
 
-with_words : List ℕ → ℕ → Table
+with_words : List ℕ → ℕ → HashTable
 with_words words n = record { words = words; gnu = true; symbols = n }
 
 -- its symbols in order, its hashes and buckets
@@ -638,7 +638,7 @@ few_of p is = record {
   small = λ j. hashes_small is.order.own j;
 }
 
-abbrev planned_table : (p : LayoutPlan) → IsPlanned p → Table
+abbrev planned_table : (p : LayoutPlan) → IsPlanned p → HashTable
 planned_table p is = table_of p.settings.buckets (first_of p is) (hashes_of p is) (buckets_of p.settings.buckets is.order.own)
 
 same_table : (p : LayoutPlan) (is : IsPlanned p) → gnu_of p ≡ planned_table p is
@@ -688,6 +688,6 @@ gnu_whole r fits =
     let p : LayoutPlan = plan_of r in
     let is : IsPlanned p = is_planned r fits in
     record {
-      formed = subst (λ (t : Table). well_formed t ≡ true) (sym (same_table p is)) (table_formed p.settings.buckets (first_of p is) (hashes_of p is) (buckets_of p.settings.buckets is.order.own) (few_of p is));
-      leads = λ i d lt defined. subst (λ (t : Table). is_chain_symbol t (gnu (get_or p.symbols i d).name) (i + 1) ≡ true) (sym (same_table p is)) (plan_leads p is i d lt defined);
+      formed = subst (λ (t : HashTable). well_formed t ≡ true) (sym (same_table p is)) (table_formed p.settings.buckets (first_of p is) (hashes_of p is) (buckets_of p.settings.buckets is.order.own) (few_of p is));
+      leads = λ i d lt defined. subst (λ (t : HashTable). is_chain_symbol t (gnu (get_or p.symbols i d).name) (i + 1) ≡ true) (sym (same_table p is)) (plan_leads p is i d lt defined);
     }

@@ -19,7 +19,7 @@ use Rattle.pl_relr.specs.declared.fault.RelrFault.{RelrFault}
 use Rattle.pl_relr.specs.declared.fault.RelrFault.TheVariants.{Packed}
 use Rattle.pl_relr.specs.Places as packed
 use Rattle.pl_object.specs.FilePart.{nothing, loader, loaded_by, file_window, in_file_part, loaded}
-use Rattle.pl_object.specs.TableClauses.{lacks_tags, is_misplaced, other_dynsym, any_lost, any_outside, tables_overlap, bad_tables, bad_rela, bad_jmprel, bad_relocation_tables, bad_relr_tags, meets, misplaced_relr, bad_relr_table, bad_packed, check_tables}
+use Rattle.pl_object.specs.TableClauses.{lacks_tags, is_misplaced, other_dynsym, any_lost, any_table_outside, tables_overlap, bad_tables, bad_rela, bad_jmprel, bad_relocation_tables, bad_relr_tags, meets, misplaced_relr, bad_relr_table, bad_packed, check_tables}
 use Rattle.pl_object.specs.Tables.{value, dynamic_memory, tag_memory, strings_memory, rela_memory, jmprel_memory, relr_memory, has_kind, section_size, symbols_memory, begins_at, section_memory, is_lost, tables_memory, header_window, segments_window, sections_window, symtab_windows, main_windows}
 use Rattle.pl_build.specs.declared.layout.Tables.{Tables}
 use Rattle.pl_build.specs.declared.layout_plan.LayoutPlan.{LayoutPlan}
@@ -847,7 +847,7 @@ pub record AreTaken (r : Recipe) (bytes : List ℕ) (t : Tables) (e : Extents) :
   pub taken : check_tables bytes (planned_header (plan_of r) t) (planned_segments (plan_of r) t) (planned_sections (plan_of r) t) (tags_of r e) ≡ Ok tt
 
 pub are_taken : (r : Recipe) (bytes : List ℕ) (t : Tables) → IsPlain r → tables (plan_of r) ≡ Ok t → (here : IsPlaced r bytes t) → AreTaken r bytes t here.shape.extents
-unfolding bad_tables any_outside tables_overlap bad_relocation_tables bad_packed
+unfolding bad_tables any_table_outside tables_overlap bad_relocation_tables bad_packed
 are_taken r bytes t plain there here =
     let p : LayoutPlan = plan_of r in
     let e : Extents = here.shape.extents in

@@ -21,7 +21,7 @@ use Rattle.pl_hash.specs.Hash.{gnu}
 use Rattle.pl_sym.specs.Symbol as seen
 use Rattle.pl_sym.specs.declared.symbol.Symbol as read
 use Rattle.pl_object.specs.FilePart.{nothing, loads_byte, loader, file_window, in_file_part}
-use Rattle.pl_object.specs.PlaceClauses.{is_known, is_bad, first_bad, last_load, is_in_memory, is_held, reloc_outside, rows_of, packed_of, any_outside, reloc_overlap, spots, reloc_in_tables, is_odd, odd_addend, is_misplaced_copy, misplaced_copy, check_places, check_relocs}
+use Rattle.pl_object.specs.PlaceClauses.{is_known, is_bad, first_bad, last_load, is_in_memory, is_held, reloc_outside, rows_of, last_packed, any_place_outside, reloc_overlap, spots, reloc_in_tables, is_odd, odd_addend, is_misplaced_copy, misplaced_copy, check_places, check_relocs}
 use Rattle.pl_object.specs.Relocations.{width, relocs, place, places}
 use Rattle.pl_object.specs.SymbolClauses.{is_ifunc, has_ifunc}
 use Rattle.pl_object.specs.TableClauses.{meets}
@@ -682,12 +682,12 @@ none_packed ss = refl
 -- of relocations of which these things are known
 places_taken : (program : Bool) (ss : List Segment) (ws : List Window) (count : ℕ) (rs : List Reloc) → first_bad count rs ≡ None → reloc_outside program ss rs ≡ false → reloc_overlap rs ≡ false → reloc_in_tables ws ss rs ≡ false → odd_addend rs ≡ false
     → check_relocs program ss ws count 0 rs ≡ Ok tt
-unfolding check_relocs check_places any_outside
+unfolding check_relocs check_places any_place_outside
 places_taken program ss ws count rs good outside overlap clear plain =
     let rows : rows_of 0 rs ≡ rs = take_all (length rs - 0) rs (omega arith) in
-    let packed : packed_of 0 rs ≡ [] = drop_all (length rs - 0) rs (omega arith) in
-    let held : (reloc_outside program ss (rows_of 0 rs) || reloc_outside false ss (packed_of 0 rs)) ≡ false =
-    ap (λ (l : List Reloc). reloc_outside program ss l || reloc_outside false ss (packed_of 0 rs)) rows
+    let packed : last_packed 0 rs ≡ [] = drop_all (length rs - 0) rs (omega arith) in
+    let held : (reloc_outside program ss (rows_of 0 rs) || reloc_outside false ss (last_packed 0 rs)) ≡ false =
+    ap (λ (l : List Reloc). reloc_outside program ss l || reloc_outside false ss (last_packed 0 rs)) rows
     ∙ ap (λ (l : List Reloc). reloc_outside program ss rs || reloc_outside false ss l) packed
     ∙ both_false (reloc_outside program ss rs) (reloc_outside false ss []) outside (none_packed ss) in
     rw (good, held, overlap, clear, plain) refl

@@ -108,7 +108,7 @@ placing region (w ∷ ws) planned m s fits are free room =
 
 -- ---- without rows to keep
 
-none_kept : (region : Range) (ws : List Want) (kept : List Slot) → fold (λ kept want. disjoint.with_row kept (kept_row [] region want)) kept ws ≡ kept
+none_kept : (region : Range) (ws : List Want) (kept : List Slot) → fold (λ kept want. disjoint.with_disjoint_row kept (kept_row [] region want)) kept ws ≡ kept
 unfolding kept_row
 none_kept region [] kept = refl
 none_kept region (w ∷ ws) kept = none_kept region ws kept

@@ -16,7 +16,7 @@ use Rattle.pl_hash.specs.ChainSymbols.{matching, chain_symbols, is_chain_symbol}
 use Rattle.pl_hash.specs.Chain.{head, following, is_linked, with_first, chain_from, chain, has_buckets, is_counted, has_links, chains_end, well_formed}
 use Rattle.pl_hash.specs.Hash.{sysv}
 use Rattle.pl_hash.specs.Table.{has_header, buckets_at, chains_at, first_linked, link_at, bucket, link, admits, matches}
-use Rattle.pl_hash.specs.declared.table.Table.{Table}
+use Rattle.pl_hash.specs.Table.{HashTable}
 use Rattle.pl_build.specs.declared.fields.Field.TheVariants.{Word}
 use Rattle.pl_build.specs.declared.line.SymbolLine.{SymbolLine}
 use Rattle.pl_build.specs.declared.layout_plan.LayoutPlan.{LayoutPlan}
@@ -176,27 +176,27 @@ first_before buckets from b m le lt same =
 
 -- ---- a table with these links
 
-pub record IsSysv (t : Table) (buckets : List ℕ) : Type 0 where
+pub record IsSysv (t : HashTable) (buckets : List ℕ) : Type 0 where
   pub plain : t.gnu ≡ false
   pub symbols : t.symbols ≡ length buckets + 1
   pub links : (j : ℕ) → j < length buckets → link t (j + 1) ≡ next_after buckets j
   pub linked : (j : ℕ) → j < length buckets → is_linked t (j + 1) ≡ true
 
-chain_none : (t : Table) (steps : ℕ) → chain_from t steps None ≡ Some []
+chain_none : (t : HashTable) (steps : ℕ) → chain_from t steps None ≡ Some []
 unfolding chain_from
 chain_none t zero = refl
 chain_none t (suc steps) = refl
 
 -- one step: the links of symbol number j + 1
-chain_step : (t : Table) (buckets : List ℕ) (steps j : ℕ) (rest : Option (List ℕ)) → IsSysv t buckets → j < length buckets → chain_from t steps (following t (j + 1)) ≡ rest → chain_from t (suc steps) (Some (j + 1)) ≡ with_first (j + 1) rest
+chain_step : (t : HashTable) (buckets : List ℕ) (steps j : ℕ) (rest : Option (List ℕ)) → IsSysv t buckets → j < length buckets → chain_from t steps (following t (j + 1)) ≡ rest → chain_from t (suc steps) (Some (j + 1)) ≡ with_first (j + 1) rest
 unfolding chain_from
 chain_step t buckets steps j rest is lt e = rw (is.linked j lt, e) refl
 
-follows_none : (t : Table) (buckets : List ℕ) (j : ℕ) → IsSysv t buckets → j < length buckets → next_after buckets j ≡ 0 → following t (j + 1) ≡ None
+follows_none : (t : HashTable) (buckets : List ℕ) (j : ℕ) → IsSysv t buckets → j < length buckets → next_after buckets j ≡ 0 → following t (j + 1) ≡ None
 unfolding following
 follows_none t buckets j is lt none = rw (is.links j lt, is.plain, none) refl
 
-follows_some : (t : Table) (buckets : List ℕ) (j next : ℕ) → IsSysv t buckets → j < length buckets → next_after buckets j ≡ next + 1 → following t (j + 1) ≡ Some (next + 1)
+follows_some : (t : HashTable) (buckets : List ℕ) (j next : ℕ) → IsSysv t buckets → j < length buckets → next_after buckets j ≡ next + 1 → following t (j + 1) ≡ Some (next + 1)
 unfolding following
 follows_some t buckets j next is lt some = rw (is.links j lt, is.plain, some, not_zero next) refl
   where
@@ -204,7 +204,7 @@ follows_some t buckets j next is lt some = rw (is.links j lt, is.plain, some, no
     not_zero n = grind (arith, nat_tests)
 
 -- each chain ends, since its symbols ascend
-chain_there : (t : Table) (buckets : List ℕ) (steps j : ℕ) → IsSysv t buckets → j < length buckets → length buckets ≤ j + steps → (rest : List ℕ) × (chain_from t steps (Some (j + 1)) ≡ Some ((j + 1) ∷ rest))
+chain_there : (t : HashTable) (buckets : List ℕ) (steps j : ℕ) → IsSysv t buckets → j < length buckets → length buckets ≤ j + steps → (rest : List ℕ) × (chain_from t steps (Some (j + 1)) ≡ Some ((j + 1) ∷ rest))
 unfolding next_after
 chain_there t buckets zero j is lt enough = absurd (omega (arith, lt, enough))
 chain_there t buckets (suc steps) j is lt enough = elim (next_or_none buckets (j + 1) (get_or buckets j 0)) [
@@ -218,7 +218,7 @@ chain_there t buckets (suc steps) j is lt enough = elim (next_or_none buckets (j
 ]
 
 -- and has each later symbol of its bucket
-chain_holds : (t : Table) (buckets : List ℕ) (steps j m : ℕ) → IsSysv t buckets → j ≤ m → m < length buckets → (get_or buckets m 0 == get_or buckets j 0) ≡ true → length buckets ≤ j + steps
+chain_holds : (t : HashTable) (buckets : List ℕ) (steps j m : ℕ) → IsSysv t buckets → j ≤ m → m < length buckets → (get_or buckets m 0 == get_or buckets j 0) ≡ true → length buckets ≤ j + steps
     → (l : List ℕ) × (chain_from t steps (Some (j + 1)) ≡ Some l) × (list_any (λ k. k == m + 1) l ≡ true)
 unfolding next_after
 chain_holds t buckets zero j m is le lt same enough = absurd (omega (arith, le, lt, enough))
@@ -296,7 +296,7 @@ all_fit count buckets few small =
 
 -- ---- the table
 
-abbrev table_of : ℕ → List ℕ → Table
+abbrev table_of : ℕ → List ℕ → HashTable
 table_of count buckets = record { words = flat_map word_bytes (front_words count buckets ++ nexts buckets); gnu = false; symbols = length buckets + 1 }
 
 pub record AreFew (count : ℕ) (buckets : List ℕ) : Type 0 where
@@ -353,7 +353,7 @@ head_some count buckets k index few lt some = rw (bucket_is count buckets k few 
 chain_is_there : (count : ℕ) (buckets : List ℕ) (k : ℕ) → AreFew count buckets → k < count → is_some (chain (table_of count buckets) (head (table_of count buckets) k)) ≡ true
 unfolding chain
 chain_is_there count buckets k few lt =
-    let t : Table = table_of count buckets in
+    let t : HashTable = table_of count buckets in
     elim (next_or_none buckets 0 k) [
       | inl none ↦ ap (λ (o : Option (List ℕ)). is_some o) (ap (chain_from t (length buckets + 1)) (head_none count buckets k few lt none) ∙ chain_none t (length buckets + 1))
       | inr next ↦
@@ -368,7 +368,7 @@ all_in_range p k (suc n) each = rw (each k (omega arith)) (all_in_range p (k + 1
 table_formed : (count : ℕ) (buckets : List ℕ) → AreFew count buckets → well_formed (table_of count buckets) ≡ true
 unfolding well_formed has_header has_buckets is_counted has_links chains_end chains_at buckets_at
 table_formed count buckets few =
-    let t : Table = table_of count buckets in
+    let t : HashTable = table_of count buckets in
     let long = table_long count buckets in
     rw (
       count_is count buckets few,
@@ -388,7 +388,7 @@ bucket_holds : (count : ℕ) (buckets : List ℕ) (b i : ℕ) → AreFew count b
     → (l : List ℕ) × (chain (table_of count buckets) (head (table_of count buckets) b) ≡ Some l) × (list_any (λ k. k == i + 1) l ≡ true)
 unfolding chain
 bucket_holds count buckets b i few small lt same =
-    let t : Table = table_of count buckets in
+    let t : HashTable = table_of count buckets in
     let first = first_before buckets 0 b i (omega arith) lt same in
     let next = first.0 in
     let more = chain_holds t buckets (length buckets + 1) next.index i (is_sysv count buckets few) first.1 lt (both (get_or buckets i 0) (get_or buckets next.index 0) b same next.same) (omega arith) in
@@ -417,7 +417,7 @@ few_of : (p : LayoutPlan) → FitsBuckets p → AreFew p.settings.buckets (sysv_
 unfolding sysv_buckets
 few_of p fits = record { some = fits.some; below = fits.count; symbols = omega (arith, fits.symbols, length-map p.symbols (λ (s : SymbolLine). bucket_of p.settings.buckets (sysv s.name))) }
 
-with_words : List ℕ → ℕ → Table
+with_words : List ℕ → ℕ → HashTable
 with_words words n = record { words = words; gnu = false; symbols = n }
 
 same_table : (p : LayoutPlan) → sysv_of p ≡ table_of p.settings.buckets (sysv_buckets p)
@@ -443,7 +443,7 @@ own_bucket p i d some lt = own p.symbols i lt
 
 pub sysv_whole : SysvIsWhole
 sysv_whole p fits = record {
-  formed = subst (λ (t : Table). well_formed t ≡ true) (sym (same_table p)) (table_formed p.settings.buckets (sysv_buckets p) (few_of p fits));
-  leads = λ i d lt. subst (λ (t : Table). is_chain_symbol t (sysv (get_or p.symbols i d).name) (i + 1) ≡ true) (sym (same_table p))
+  formed = subst (λ (t : HashTable). well_formed t ≡ true) (sym (same_table p)) (table_formed p.settings.buckets (sysv_buckets p) (few_of p fits));
+  leads = λ i d lt. subst (λ (t : HashTable). is_chain_symbol t (sysv (get_or p.symbols i d).name) (i + 1) ≡ true) (sym (same_table p))
       (table_leads p.settings.buckets (sysv_buckets p) (sysv (get_or p.symbols i d).name) i (few_of p fits) (omega (arith, lt, buckets_count p)) (own_bucket p i d fits.some lt));
 }

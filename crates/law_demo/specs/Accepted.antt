@@ -1,7 +1,7 @@
 -- The object that the file of a plain and modest recipe is read as.
 use Rattle.std.specs.Prelude.{◌≡◌, ℕ, List, [], ◌∷◌, ◌++◌, None, Ok, if◌then◌else◌}
 use Rattle.pl_dyn.specs.declared.dynamic.Dynamic.{Dynamic}
-use Rattle.pl_hash.specs.declared.table.Table.{Table}
+use Rattle.pl_hash.specs.Table.{HashTable}
 use Rattle.pl_object.specs.Reads.{object, reads}
 use Rattle.pl_object.specs.Tables.{link_windows}
 use Rattle.pl_object.specs.declared.headers.Headers.{Headers}
@@ -35,7 +35,7 @@ planned_dynamic p before = record { tags = planned_tags p before; spare = p.sett
 unfoldable pub planned_linking : Recipe → Linking
 planned_linking r = record { needed = r.needs; symbols = planned_symbols (plan_of r); versions = None }
 
-unfoldable pub planned_hashes : Recipe → List Table
+unfoldable pub planned_hashes : Recipe → List HashTable
 planned_hashes r = (if r.settings.hashes.sysv then sysv_of (plan_of r) ∷ [] else []) ++ (if r.settings.hashes.gnu then gnu_of (plan_of r) ∷ [] else [])
 
 unfoldable pub planned_layout : Recipe → Tables → List PlacedSection → Layout

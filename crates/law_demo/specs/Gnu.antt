@@ -3,7 +3,7 @@ use Rattle.std.specs.Prelude.{◌≡◌, ℕ, ◌+◌, ◌^◌, ◌<◌, true, l
 use Rattle.pl_hash.specs.ChainSymbols.{is_chain_symbol}
 use Rattle.pl_hash.specs.Chain.{well_formed}
 use Rattle.pl_hash.specs.Hash.{gnu}
-use Rattle.pl_hash.specs.declared.table.Table.{Table}
+use Rattle.pl_hash.specs.Table.{HashTable}
 use Rattle.pl_build.specs.declared.line.SymbolLine.{SymbolLine}
 use Rattle.pl_build.specs.declared.layout_plan.LayoutPlan.{LayoutPlan}
 use Rattle.pl_build.specs.declared.recipe.Recipe.{Recipe}
@@ -11,7 +11,7 @@ use Rattle.pl_build.specs.HashTables.{gnu_table}
 use Rattle.pl_build.specs.LayoutPlan.{plan_of}
 
 -- as it is read, with the null symbol among the symbols
-abbrev pub gnu_of : LayoutPlan → Table
+abbrev pub gnu_of : LayoutPlan → HashTable
 gnu_of p = record { words = gnu_table p; gnu = true; symbols = length p.symbols + 1 }
 
 -- a recipe of a file with such a table

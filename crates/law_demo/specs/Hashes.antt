@@ -3,13 +3,13 @@ use Rattle.std.specs.Prelude.{◌≡◌, ℕ, ◌+◌, ◌^◌, ◌<◌, true, f
 use Rattle.pl_hash.specs.ChainSymbols.{is_chain_symbol}
 use Rattle.pl_hash.specs.Chain.{well_formed}
 use Rattle.pl_hash.specs.Hash.{sysv}
-use Rattle.pl_hash.specs.declared.table.Table.{Table}
+use Rattle.pl_hash.specs.Table.{HashTable}
 use Rattle.pl_build.specs.declared.line.SymbolLine.{SymbolLine}
 use Rattle.pl_build.specs.declared.layout_plan.LayoutPlan.{LayoutPlan}
 use Rattle.pl_build.specs.HashTables.{sysv_table}
 
 -- as it is read, with the null symbol among the symbols
-abbrev pub sysv_of : LayoutPlan → Table
+abbrev pub sysv_of : LayoutPlan → HashTable
 sysv_of p = record { words = sysv_table p; gnu = false; symbols = length p.symbols + 1 }
 
 pub record FitsBuckets (p : LayoutPlan) : Type 0 where

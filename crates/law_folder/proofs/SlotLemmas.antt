@@ -171,7 +171,7 @@ push_holds Q (y ∷ ys) x all one = (all.0, push_holds Q ys x all.1 one)
 
 -- ---- where no two may overlap
 
-with_holds : (kept : List Slot) (o : Option Slot) → AllByRecursion IsWhole kept → WholeAt o → AllByRecursion IsWhole (disjoint.with_row kept o)
+with_holds : (kept : List Slot) (o : Option Slot) → AllByRecursion IsWhole kept → WholeAt o → AllByRecursion IsWhole (disjoint.with_disjoint_row kept o)
 with_holds kept None all one = all
 with_holds kept (Some row) all one = by_test (list_all (is_beside row) kept)
   where
@@ -179,9 +179,9 @@ with_holds kept (Some row) all one = by_test (list_all (is_beside row) kept)
     by_test true = push_holds IsWhole kept row all one
     by_test false = all
 
-disjoint_from : (rows : List Slot) (region : Range) (ws : List Want) (kept : List Slot) → AllByRecursion IsWhole rows → AllByRecursion IsWhole kept → AllByRecursion IsWhole (fold (λ kept want. disjoint.with_row kept (kept_row rows region want)) kept ws)
+disjoint_from : (rows : List Slot) (region : Range) (ws : List Want) (kept : List Slot) → AllByRecursion IsWhole rows → AllByRecursion IsWhole kept → AllByRecursion IsWhole (fold (λ kept want. disjoint.with_disjoint_row kept (kept_row rows region want)) kept ws)
 disjoint_from rows region [] kept whole all = all
-disjoint_from rows region (w ∷ ws) kept whole all = disjoint_from rows region ws (disjoint.with_row kept (kept_row rows region w)) whole (with_holds kept (kept_row rows region w) all (kept_holds rows region w whole))
+disjoint_from rows region (w ∷ ws) kept whole all = disjoint_from rows region ws (disjoint.with_disjoint_row kept (kept_row rows region w)) whole (with_holds kept (kept_row rows region w) all (kept_holds rows region w whole))
 
 disjoint_holds : (rows : List Slot) (ws : List Want) (region : Range) → AllByRecursion IsWhole rows → AllByRecursion IsWhole (disjoint.disjoint rows ws region)
 unfolding disjoint.disjoint
@@ -217,7 +217,7 @@ apart_slots rows ws region ss whole fits e =
 abbrev GivenWhole : Given → Type 0
 GivenWhole g = IsWhole g.slot
 
-given_holds : (walks : List (List ℕ)) (given : List Given) (i : ℕ) (o : Option Slot) → AllByRecursion GivenWhole given → WholeAt o → AllByRecursion GivenWhole (shared.with_row walks given i o)
+given_holds : (walks : List (List ℕ)) (given : List Given) (i : ℕ) (o : Option Slot) → AllByRecursion GivenWhole given → WholeAt o → AllByRecursion GivenWhole (shared.with_clear_row walks given i o)
 given_holds walks given i None all one = all
 given_holds walks given i (Some row) all one = by_test (shared.is_clear walks given i row)
   where
@@ -228,7 +228,7 @@ given_holds walks given i (Some row) all one = by_test (shared.is_clear walks gi
 kept_given : (rows : List Slot) (walks : List (List ℕ)) (region : Range) (given : List Given) (i : ℕ) (ws : List Want) → AllByRecursion IsWhole rows → AllByRecursion GivenWhole given → AllByRecursion GivenWhole (shared.all_kept rows walks region given i ws)
 unfolding shared.all_kept shared.kept
 kept_given rows walks region given i [] whole all = all
-kept_given rows walks region given i (w ∷ ws) whole all = kept_given rows walks region (shared.with_row walks given i (kept_row rows region w)) (i + 1) ws whole (given_holds walks given i (kept_row rows region w) all (kept_holds rows region w whole))
+kept_given rows walks region given i (w ∷ ws) whole all = kept_given rows walks region (shared.with_clear_row walks given i (kept_row rows region w)) (i + 1) ws whole (given_holds walks given i (kept_row rows region w) all (kept_holds rows region w whole))
 
 place_holds : (walks : List (List ℕ)) (region : Range) (given more : List Given) (i : ℕ) (w : Want) → AllByRecursion GivenWhole given → Fits w → shared.placed walks region given i w ≡ Ok more → AllByRecursion GivenWhole more
 unfolding shared.placed

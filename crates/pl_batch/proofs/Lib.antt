@@ -2,6 +2,7 @@ pub mod RoomLemmas
 pub mod FindLemmas
 pub mod RowLemmas
 pub mod UndoLemmas
+pub mod AskedLemmas
 pub mod StoreLemmas
 pub mod QuietLemmas
 pub mod StartLemmas

@@ -2,6 +2,7 @@
 #![tactic(auto)]
 
 mod all;
+mod asked;
 mod cause;
 mod changes;
 mod commands;

@@ -6,6 +6,7 @@ ghost use Rattle.pl_batch.specs.Answers.{Finds, BatchMeansAlone};
 ghost use Rattle.pl_journal.specs.declared.change.Change.TheVariants.{Put};
 ghost use Rattle.pl_batch.specs.Undo as spec;
 
+use crate::asked::distinct;
 use crate::room::{are_many, is_among};
 use crate::taking::{list, take};
 use crate::{BatchFault, Cause};
@@ -178,8 +179,8 @@ fn undo_all<D: Folder>(
     Ok(rows)
 }
 
-/// What undoing these names changes, or the first cause.
-pub(crate) fn undone<D: Folder>(
+/// What undoing these names changes, each of which is read twice, or the first cause.
+fn undone_distinct<D: Folder>(
     alloc: Global,
     folder: &mut D,
     asked: &[Text],
@@ -193,6 +194,19 @@ pub(crate) fn undone<D: Folder>(
     }
     check_asked(alloc, folder, asked)?;
     undo_those(alloc, folder, &names, asked)
+}
+
+/// What undoing these names changes, or the first cause. No file is read more often where the words name it more often.
+pub(crate) fn undone<D: Folder>(
+    alloc: Global,
+    folder: &mut D,
+    asked: &[Text],
+) -> Result<Rows<Change>, BatchFault>
+    ensures { Finds (spec.undone (D.seen folder.old).files asked.now) (λ rows. rows) result
+        (D.seen folder.old) (D.seen folder.new) }
+{
+    let names = distinct(alloc, asked)?;
+    undone_distinct(alloc, folder, &names)
 }
 
 /// What undoing every name changes, or the first cause.

@@ -23,8 +23,8 @@ abbrev pub is_static_first : Option Line → Bool
 is_static_first (Some (First Static)) = true
 is_static_first _ = false
 
-unfoldable pub is_static : List Line → Bool
-is_static lines = is_static_first (slice_get lines 0)
+unfoldable pub is_static_recipe : List Line → Bool
+is_static_recipe lines = is_static_first (slice_get lines 0)
 
 unfoldable pub is_misplaced : Bool → Line → Bool
 is_misplaced static Wrong = true
@@ -37,7 +37,7 @@ is_misplaced static (Entry n) = false
 is_misplaced static _ = static
 
 unfoldable pub is_wrong : List Line → ℕ → Line → Bool
-is_wrong lines index line = if index == 0 then not (is_first line) else is_misplaced (is_static lines) line
+is_wrong lines index line = if index == 0 then not (is_first line) else is_misplaced (is_static_recipe lines) line
 
 -- ---- kind 2
 

@@ -8,11 +8,11 @@ use Rattle.pl_build.specs.declared.recipe.Settings.{Settings}
 use Rattle.pl_build.specs.LayoutPlan.{data_address}
 
 -- the address of a packed word
-abbrev pub place_of : Settings → PackedWord → ℕ
-place_of s w = plus (data_address s) w.offset
+abbrev pub packed_place : Settings → PackedWord → ℕ
+packed_place s w = plus (data_address s) w.offset
 
 -- the table of their addresses; words that cannot be packed have faults of their own
 unfoldable pub packed_table : LayoutPlan → List ℕ
 packed_table p =
-    let places = map (place_of p.settings) p.packed in
+    let places = map (packed_place p.settings) p.packed in
     if is_packable places then packed places else []

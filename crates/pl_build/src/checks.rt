@@ -29,9 +29,9 @@ fn is_first(line: &Line) -> bool
     matches!(line, Line::First(_))
 }
 
-#[tactic(auto, unfolding(crate::specs::Checks::is_static))]
-fn is_static(lines: &[Line]) -> bool
-    ensures { result ≡ spec.is_static lines.now }
+#[tactic(auto, unfolding(crate::specs::Checks::is_static_recipe))]
+fn is_static_recipe(lines: &[Line]) -> bool
+    ensures { result ≡ spec.is_static_recipe lines.now }
 {
     match lines.get(0) {
         Some(Line::First(FileKind::Static)) => true,
@@ -57,7 +57,7 @@ fn is_wrong(lines: &[Line], index: usize, line: &Line) -> bool
     if index == 0 {
         !is_first(line)
     } else {
-        is_misplaced(is_static(lines), line)
+        is_misplaced(is_static_recipe(lines), line)
     }
 }
 

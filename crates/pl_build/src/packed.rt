@@ -79,7 +79,8 @@ pub fn data_words(alloc: Global, recipe: &Recipe) -> Result<Rows<DataWord>, Allo
 }
 
 fn packed_places(alloc: Global, plan: &LayoutPlan) -> Result<Vec<u64>, AllocError>
-    ensures { IfOk result (λ v. v.items ≡ map (spec.place_of plan.now.settings) plan.now.packed) }
+    ensures { IfOk result (λ v. v.items
+        ≡ map (spec.packed_place plan.now.settings) plan.now.packed) }
 {
     let packed = plan.packed.as_slice();
     packed

@@ -43,19 +43,16 @@ fn is_in(settings: &Settings, number: u64, symbol: &SymbolLine) -> bool
 pub fn copy_symbol(alloc: Global, symbol: &SymbolLine) -> Result<SymbolLine, AllocError>
     ensures { IfOk result (λ s. s ≡ symbol.now) }
 {
+    let written = copy_of(alloc, symbol.written.as_slice())?;
+    let name = copy_of(alloc, symbol.name.as_slice())?;
+    let version = copy_of(alloc, symbol.version.as_slice())?;
+    let file = copy_of(alloc, symbol.file.as_slice())?;
     Ok(SymbolLine {
-        defined: symbol.defined,
-        written: copy_of(alloc, symbol.written.as_slice())?,
-        name: copy_of(alloc, symbol.name.as_slice())?,
-        version: copy_of(alloc, symbol.version.as_slice())?,
-        default_version: symbol.default_version,
-        file: copy_of(alloc, symbol.file.as_slice())?,
-        bind: symbol.bind,
-        kind: symbol.kind,
-        visibility: symbol.visibility,
-        placed: symbol.placed,
-        offset: symbol.offset,
-        size: symbol.size,
+        written,
+        name,
+        version,
+        file,
+        ..*symbol
     })
 }
 

@@ -62,7 +62,7 @@ pub original_is : (bytes : List ℕ) (file : File) → forms.file_in bytes ≡ O
 unfolding original
 original_is bytes file is = ap (λ (r : Result File FileFault). r >>= λ f. Ok (object_by f)) is
 
-pub original_refused : (name bytes : List ℕ) (fault : FileFault) → Answers marks.is_memory (Err fault) (forms.file_in bytes) → StopsAlone (because (refused_file name) (original bytes)) (of_load_fault (of_file name fault))
+pub original_refused : (name bytes : List ℕ) (fault : FileFault) → Answers marks.file_fault_is_memory (Err fault) (forms.file_in bytes) → StopsAlone (because (refused_file name) (original bytes)) (of_load_fault (of_file name fault))
 unfolding original
 original_refused name bytes faults.BadMark is = ap (λ (r : Result File FileFault). because (refused_file name) (r >>= λ f. Ok (object_by f))) is
 original_refused name bytes (faults.Refused (refusals.Clause number argument)) is = ap (λ (r : Result File FileFault). because (refused_file name) (r >>= λ f. Ok (object_by f))) is

@@ -95,13 +95,13 @@ walk_fault_tells (walk_faults.TooMany name) t = refl
 walk_fault_tells (walk_faults.NotThere name) t = refl
 walk_fault_tells walk_faults.NoMemory t = t
 
-original_tells : (bytes : List ℕ) → NeverMemory form.is_memory (original bytes)
+original_tells : (bytes : List ℕ) → NeverMemory form.file_fault_is_memory (original bytes)
 unfolding original
-original_tells bytes = then_tells form.is_memory _ _ (file_in_tells bytes) (λ file. ok_tells form.is_memory _)
+original_tells bytes = then_tells form.file_fault_is_memory _ _ (file_in_tells bytes) (λ file. ok_tells form.file_fault_is_memory _)
 
 object_tells : (files : Files) (name : List ℕ) → NeverMemory is_memory (object_in files name)
 unfolding object_in
-object_tells files name = then_tells is_memory _ _ (file_tells files name) (λ bytes. because_tells form.is_memory is_memory (refused_file name) _ (of_file_tells name) (original_tells bytes))
+object_tells files name = then_tells is_memory _ _ (file_tells files name) (λ bytes. because_tells form.file_fault_is_memory is_memory (refused_file name) _ (of_file_tells name) (original_tells bytes))
 
 walked_tells : (files : Files) (name : List ℕ) → NeverMemory is_memory (walked files name)
 unfolding walked

@@ -7,7 +7,7 @@ use Rattle.std.proofs.lemmas.Option.{none-some, same_Some, slice_get-map, slice_
 use Rattle.pl_base.specs.Answers.{Answers}
 use Rattle.pl_scope.specs.Walk.{Walked}
 use Rattle.pl_cone.specs.Needs.{AddsWalk}
-use Rattle.pl_cone.specs.Skips.{is_memory}
+use Rattle.pl_cone.specs.Skips.{skip_is_memory}
 use Rattle.pl_cone.specs.Table.{AreWalks, IsWalkAt, IsWalkOfFile, refusal_of, refusals_in, walk_at, walk_for, walk_named, walked_by}
 use Rattle.pl_cone.specs.declared.skip.Skip.{Skip}
 use Rattle.pl_cone.specs.declared.taken.Taken.{Taken}
@@ -51,10 +51,10 @@ push_first ts i before after rows cause walks causes is first = record {
 walk_of_row : (ts : List Taken) (i : ℕ) (t : Taken) → slice_get ts i ≡ Some t → walk_at ts i ≡ walk_for ts t.name
 walk_of_row ts i t at = ap (walk_named ts) at
 
-told_by : (skip : Skip) (meant : Result Walked Skip) → is_memory skip ≡ false → Answers is_memory (Err skip) meant → meant ≡ Err skip
-told_by skip meant other = elim (is_memory skip) as (λ b. b ≡ false → MatchBool b ⊤ (meant ≡ Err skip) → meant ≡ Err skip) [ true ↦ λ never. absurd cc | false ↦ λ _ h. h ] other
+told_by : (skip : Skip) (meant : Result Walked Skip) → skip_is_memory skip ≡ false → Answers skip_is_memory (Err skip) meant → meant ≡ Err skip
+told_by skip meant other = elim (skip_is_memory skip) as (λ b. b ≡ false → MatchBool b ⊤ (meant ≡ Err skip) → meant ≡ Err skip) [ true ↦ λ never. absurd cc | false ↦ λ _ h. h ] other
 
-pub first_more : (ts : List Taken) (i : ℕ) (walk : Result (List ℕ) Skip) (before after : FolderWalks) → IfOk walk (IsWalkAt ts i) → IfErr walk (λ skip. Answers is_memory (Err skip) (walk_at ts i)) → AddsWalk walk before after (Ok tt)
+pub first_more : (ts : List Taken) (i : ℕ) (walk : Result (List ℕ) Skip) (before after : FolderWalks) → IfOk walk (IsWalkAt ts i) → IfErr walk (λ skip. Answers skip_is_memory (Err skip) (walk_at ts i)) → AddsWalk walk before after (Ok tt)
     → AreFirst ts i before → AreFirst ts (i + 1) after
 first_more ts i (Ok rows) before after ok err adds first =
     push_first ts i before after rows None adds.0 adds.1 (λ t at. (ok.0, sym (walk_of_row ts i t at) ∙ ok.1)) first

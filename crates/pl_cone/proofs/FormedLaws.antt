@@ -15,7 +15,7 @@ use Rattle.pl_scope.specs.Members.{names}
 use Rattle.pl_scope.specs.Walk.{Walked}
 use Rattle.pl_cone.specs.Candidates.{formed, all_formed}
 use Rattle.pl_cone.specs.Linking.{formed_by}
-use Rattle.pl_cone.specs.Skips.{is_memory}
+use Rattle.pl_cone.specs.Skips.{skip_is_memory}
 use Rattle.pl_cone.specs.Table.{faults_of, member_of, names_by, walked_by}
 use Rattle.pl_cone.specs.Taken.{AreTaken, object_by}
 use Rattle.pl_cone.specs.declared.skip.Skip.{Skip}
@@ -61,8 +61,8 @@ pub formed_more : (ts : List Taken) (walk : List ℕ) (i : ℕ) (t : Taken) (who
 formed_more ts walk i t whole lt within is formed so_far =
     run_more (by_row ts) tt tt walk i (get_or walk i 0) whole lt (get_or_default walk i 0 (get_or walk i 0) lt) (row_formed ts (get_or walk i 0) t (within i 0 lt) is ∙ formed) so_far
 
-pub formed_stops : (ts : List Taken) (walk : List ℕ) (i : ℕ) (t : Taken) (e : Skip) (whole : Result (Unit {0}) Skip) → i < length walk → All (λ r. r < length ts) walk → t ≡ get_or ts (get_or walk i 0) t → MatchBool (is_memory e) ⊤ (formed_by t ≡ Err e)
-    → run (by_row ts) tt (drop i walk) ≡ whole → MatchBool (is_memory e) ⊤ (whole ≡ Err e)
+pub formed_stops : (ts : List Taken) (walk : List ℕ) (i : ℕ) (t : Taken) (e : Skip) (whole : Result (Unit {0}) Skip) → i < length walk → All (λ r. r < length ts) walk → t ≡ get_or ts (get_or walk i 0) t → MatchBool (skip_is_memory e) ⊤ (formed_by t ≡ Err e)
+    → run (by_row ts) tt (drop i walk) ≡ whole → MatchBool (skip_is_memory e) ⊤ (whole ≡ Err e)
 formed_stops ts walk i t e whole lt within is formed so_far =
-    run_fails is_memory (by_row ts) tt walk i (get_or walk i 0) e whole lt (get_or_default walk i 0 (get_or walk i 0) lt)
-    (subst (λ (r : Result (Unit {0}) Skip). MatchBool (is_memory e) ⊤ (r ≡ Err e)) (sym (row_formed ts (get_or walk i 0) t (within i 0 lt) is)) formed) so_far
+    run_fails skip_is_memory (by_row ts) tt walk i (get_or walk i 0) e whole lt (get_or_default walk i 0 (get_or walk i 0) lt)
+    (subst (λ (r : Result (Unit {0}) Skip). MatchBool (skip_is_memory e) ⊤ (r ≡ Err e)) (sym (row_formed ts (get_or walk i 0) t (within i 0 lt) is)) formed) so_far

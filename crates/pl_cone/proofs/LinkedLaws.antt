@@ -15,7 +15,7 @@ use Rattle.pl_cone.specs.Linking.{AreLibraryLinks, AreLinked, HasWalk, HaveDone,
 use Rattle.pl_cone.specs.Links.{IsLinkOf, LinksProgram}
 use Rattle.pl_conflict.specs.Own.{FindAll}
 use Rattle.pl_cone.specs.Plans.{cause_of}
-use Rattle.pl_cone.specs.Skips.{is_memory}
+use Rattle.pl_cone.specs.Skips.{skip_is_memory}
 use Rattle.pl_cone.specs.Table.{IsLinkBy, IsLinkKind, faults_of, walked_by}
 use Rattle.pl_cone.specs.Taken.{is_library_entry}
 use Rattle.pl_cone.specs.declared.link.Link.{Link}
@@ -189,11 +189,11 @@ library_links w l count is have = λ row link h library fit there.
 
 -- ---- what is found of a row
 
-same_answer : (a b : Result (Unit {0}) Skip) (skip : Skip) → a ≡ b → Answers is_memory (Err skip) a → Answers is_memory (Err skip) b
-same_answer a b skip same h = subst (λ (r : Result (Unit {0}) Skip). Answers is_memory (Err skip) r) same h
+same_answer : (a b : Result (Unit {0}) Skip) (skip : Skip) → a ≡ b → Answers skip_is_memory (Err skip) a → Answers skip_is_memory (Err skip) b
+same_answer a b skip same h = subst (λ (r : Result (Unit {0}) Skip). Answers skip_is_memory (Err skip) r) same h
 
 -- a library, of which a member has no form
-pub library_stops : (w : walked.WalkedFiles) (row : ℕ) (skip : Skip) → IsWalked w → (h : HasWalk w row) → is_library_row w row ≡ true → Answers is_memory (Err skip) (all_formed (faults_of w.files.now) (names (walked_by w.files.now h.rows))) → LinksBy w h.rows (fits w h.taken h.rows) (Err skip)
+pub library_stops : (w : walked.WalkedFiles) (row : ℕ) (skip : Skip) → IsWalked w → (h : HasWalk w row) → is_library_row w row ≡ true → Answers skip_is_memory (Err skip) (all_formed (faults_of w.files.now) (names (walked_by w.files.now h.rows))) → LinksBy w h.rows (fits w h.taken h.rows) (Err skip)
 library_stops w row skip is h library answer =
     same_answer _ _ skip (sym (fit_library (faults_of w.files.now) h.taken.name (walked_by w.files.now h.rows) (library_first w row is h library))) answer
 
@@ -215,11 +215,11 @@ stops_then : (b : Bool) (r s : Result (Unit {0}) Skip) (skip : Skip) → MatchBo
 stops_then true r s skip answer = tt
 stops_then false r s skip answer = ap (λ (x : Result (Unit {0}) Skip). x >>= λ _. s) answer
 
-pub program_stops : (w : walked.WalkedFiles) (row : ℕ) (skip : Skip) → IsWalked w → (h : HasWalk w row) → is_library_row w row ≡ false → is_static_entry h.taken.entry ≡ false → Answers is_memory (Err skip) (all_formed (faults_of w.files.now) (names (walked_by w.files.now h.rows))) → LinksBy w h.rows (fits w h.taken h.rows) (Err skip)
+pub program_stops : (w : walked.WalkedFiles) (row : ℕ) (skip : Skip) → IsWalked w → (h : HasWalk w row) → is_library_row w row ≡ false → is_static_entry h.taken.entry ≡ false → Answers skip_is_memory (Err skip) (all_formed (faults_of w.files.now) (names (walked_by w.files.now h.rows))) → LinksBy w h.rows (fits w h.taken h.rows) (Err skip)
 program_stops w row skip is h out also answer =
     let ws : Walked = walked_by w.files.now h.rows in
     let formed : Result (Unit {0}) Skip = all_formed (faults_of w.files.now) (names ws) in
-    same_answer (formed >>= λ _. check_links ws) (fits w h.taken h.rows) skip (sym (fit_program (faults_of w.files.now) h.taken.name ws (program_first w row is h out also))) (stops_then (is_memory skip) formed (check_links ws) skip answer)
+    same_answer (formed >>= λ _. check_links ws) (fits w h.taken h.rows) skip (sym (fit_program (faults_of w.files.now) h.taken.name ws (program_first w row is h out also))) (stops_then (skip_is_memory skip) formed (check_links ws) skip answer)
 
 program_fit : (w : walked.WalkedFiles) (row : ℕ) → IsWalked w → (h : HasWalk w row) → is_library_row w row ≡ false → is_static_entry h.taken.entry ≡ false → all_formed (faults_of w.files.now) (names (walked_by w.files.now h.rows)) ≡ Ok tt → fits w h.taken h.rows ≡ check_links (walked_by w.files.now h.rows)
 program_fit w row is h out also formed =

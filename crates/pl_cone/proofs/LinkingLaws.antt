@@ -9,7 +9,7 @@ use Rattle.pl_scope.specs.Walk.{Walked}
 use Rattle.pl_cone.specs.Linking.{HasWalk, HaveDone, IsRow, IsRowLinked, IsRowUnlinked, IsSized, IsWalked, LinksBy, LinksRow, Puts, fits}
 use Rattle.pl_cone.specs.Plans.{cause_of}
 use Rattle.pl_cone.specs.Skipped.{skip_of}
-use Rattle.pl_cone.specs.Skips.{is_memory}
+use Rattle.pl_cone.specs.Skips.{skip_is_memory}
 use Rattle.pl_cone.specs.Table.{IsLinkBy, IsWalkOfFile, refusal_of, refusals_in, walk_for, walked_by}
 use Rattle.pl_cone.specs.Taken.{AreTaken, files_in}
 use Rattle.pl_cone.specs.declared.link.Link.{Link}
@@ -63,7 +63,7 @@ cause_is w row h region t taken at =
     ap (λ (x : Taken). skip_of (files_in w.files.now) region x.name) same
     ∙ cause_fit region w.files.now h.taken.name (walked_by w.files.now h.rows) taken h.told
 
-refused_fit : (fit : Result (Unit {0}) Skip) (skip : Skip) → is_memory skip ≡ false → MatchBool (is_memory skip) ⊤ (fit ≡ Err skip) → fit ≡ Err skip
+refused_fit : (fit : Result (Unit {0}) Skip) (skip : Skip) → skip_is_memory skip ≡ false → MatchBool (skip_is_memory skip) ⊤ (fit ≡ Err skip) → fit ≡ Err skip
 refused_fit fit skip none is = rw none at is
 
 linked_at : (w : walked.WalkedFiles) (row : ℕ) (h : HasWalk w row) (after : Linked) (link : Link) → slice_get after.causes.items row ≡ Some None → slice_get after.links.items row ≡ Some link → LinksBy w h.rows (fits w h.taken h.rows) (Ok link) → IsRowLinked w after row
@@ -75,7 +75,7 @@ linked_at w row h after link cause there by = record {
       subst (λ (rs : List ℕ). IsLinkBy w.files.now w.index.now rs other) rows_same (subst (λ (k : Link). IsLinkBy w.files.now w.index.now h.rows k) same by.1);
 }
 
-skipped_at : (w : walked.WalkedFiles) (row : ℕ) (h : HasWalk w row) (after : Linked) (skip : Skip) → slice_get after.causes.items row ≡ Some (Some skip) → is_memory skip ≡ false → LinksBy w h.rows (fits w h.taken h.rows) (Err skip) → IsRowLinked w after row
+skipped_at : (w : walked.WalkedFiles) (row : ℕ) (h : HasWalk w row) (after : Linked) (skip : Skip) → slice_get after.causes.items row ≡ Some (Some skip) → skip_is_memory skip ≡ false → LinksBy w h.rows (fits w h.taken h.rows) (Err skip) → IsRowLinked w after row
 skipped_at w row h after skip cause none by = record {
   meant = λ region t taken at.
       cause ∙ sym (ap (λ (r : Result (Unit {0}) Skip). Some (cause_of r)) (cause_is w row h region t taken at ∙ refused_fit (fits w h.taken h.rows) skip none by));

@@ -12,7 +12,7 @@ use Rattle.pl_value.specs.declared.fault.OrdinaryFault.TheVariants as ordinary
 use Rattle.pl_scope.proofs.StepLaws.{err_ok}
 use Rattle.pl_cone.specs.Candidates.{blocks, check_links, of_link}
 use Rattle.pl_cone.specs.Links.{FindsFirst, FindsOwn, IsLinkingAtZero, LinksProgram, first_rows, of_ordinary, others_have, rows_have_in}
-use Rattle.pl_cone.specs.Skips.{is_memory, of_tls}
+use Rattle.pl_cone.specs.Skips.{skip_is_memory, of_tls}
 use Rattle.pl_cone.specs.declared.skip.Skip.{Skip}
 use Rattle.pl_cone.specs.declared.skip.Skip.TheVariants as skips
 use Rattle.pl_cone.specs.declared.values.WalkLinking.{WalkLinking}
@@ -30,7 +30,7 @@ meant_anyway false skip r is = is
 
 -- ---- thread-local storage
 
-pub tls_refuses : (own : Walked) (e : TlsFault) → MatchBool (tls.is_memory e) ⊤ (tls.offsets (blocks own) ≡ Err e) → MatchBool (is_memory (of_tls e)) ⊤ (check_links own ≡ Err (of_tls e))
+pub tls_refuses : (own : Walked) (e : TlsFault) → MatchBool (tls.is_memory e) ⊤ (tls.offsets (blocks own) ≡ Err e) → MatchBool (skip_is_memory (of_tls e)) ⊤ (check_links own ≡ Err (of_tls e))
 tls_refuses own TooLarge is = linked_stops own TooLarge is
 tls_refuses own NoMemory is = tt
 
@@ -40,10 +40,10 @@ pub own_stops : (l : WalkLinking) (fault : OrdinaryFault) (skip : Skip) → Find
 own_stops l (ordinary.Link fault) skip is same =
     let r : Result (Unit {0}) Skip = because (of_link l.scope.now) (rows_have_in l (first_rows l)) in
     let told : r ≡ Err (of_link l.scope.now fault) = ap (because (of_link l.scope.now)) is in
-    meant_anyway (is_memory skip) skip r (told ∙ ap (λ (s : Skip). Err s) (sym same))
+    meant_anyway (skip_is_memory skip) skip r (told ∙ ap (λ (s : Skip). Err s) (sym same))
 own_stops l ordinary.NoMemory skip is same =
     let r : Result (Unit {0}) Skip = because (of_link l.scope.now) (rows_have_in l (first_rows l)) in
-    subst (λ (s : Skip). MatchBool (is_memory s) ⊤ (r ≡ Err s)) (sym same) tt
+    subst (λ (s : Skip). MatchBool (skip_is_memory s) ⊤ (r ≡ Err s)) (sym same) tt
 
 -- ---- the whole walk
 
@@ -55,12 +55,12 @@ module _ (l : WalkLinking) (is : IsLinkingAtZero l) (some : 0 < length l.scope.n
   -- its own relocations refuse the walk
   pub own_refuses : (skip : Skip) → FindsOwn l (Err skip) → LinksProgram l.scope.now (Err skip)
   own_refuses skip stops =
-      same_unless (is_memory skip) skip (because (of_link l.scope.now) (rows_have_in l (first_rows l))) (check_links l.scope.now) (own_goes skip (rows_have_in l (first_rows l)) refl) stops
+      same_unless (skip_is_memory skip) skip (because (of_link l.scope.now) (rows_have_in l (first_rows l))) (check_links l.scope.now) (own_goes skip (rows_have_in l (first_rows l)) refl) stops
 
   -- and else those of the others decide
   pub others_are : rows_have_in l (first_rows l) ≡ Ok tt → check_links l.scope.now ≡ because (of_link l.scope.now) (others_have l)
   others_are first = others_decide l.scope.now l refl is.places is.tls some (others_have l) first refl
 
-  pub others_refuse : (skip : Skip) → rows_have_in l (first_rows l) ≡ Ok tt → MatchBool (is_memory skip) ⊤ (because (of_link l.scope.now) (others_have l) ≡ Err skip) → LinksProgram l.scope.now (Err skip)
+  pub others_refuse : (skip : Skip) → rows_have_in l (first_rows l) ≡ Ok tt → MatchBool (skip_is_memory skip) ⊤ (because (of_link l.scope.now) (others_have l) ≡ Err skip) → LinksProgram l.scope.now (Err skip)
   others_refuse skip first stops =
-      same_unless (is_memory skip) skip (because (of_link l.scope.now) (others_have l)) (check_links l.scope.now) (λ stop. others_are first ∙ stop) stops
+      same_unless (skip_is_memory skip) skip (because (of_link l.scope.now) (others_have l)) (check_links l.scope.now) (λ stop. others_are first ∙ stop) stops

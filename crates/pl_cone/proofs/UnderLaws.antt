@@ -24,7 +24,7 @@ use Rattle.pl_scope.proofs.WalkLaws.{walk_begins, walk_goes_on, walk_lacks, walk
 use Rattle.law_sound.specs.Rule as sound
 use Rattle.law_sound.specs.Rule.{objects}
 use Rattle.pl_cone.specs.Needs.{IsNumberWalk, IsMore, names_of, state, entered, entered_at, state_after, is_program_row, AreNeeds, AreNumberedFiles, all_names, name_of, name_at, object_at, object_for, object_by_number}
-use Rattle.pl_cone.specs.Skips.{is_memory, of_walk}
+use Rattle.pl_cone.specs.Skips.{skip_is_memory, of_walk}
 use Rattle.pl_cone.specs.Skipped.{skip_causes}
 use Rattle.pl_cone.specs.Table.{AreBelow, member_of, walked_by, AreRows, walk_for, walk_named, walk_at, IsWalkAt}
 use Rattle.pl_cone.specs.Taken.{files_in, object_by, object_of}

@@ -25,7 +25,7 @@ use Rattle.pl_cone.specs.Needs.{IsPast, MayBeginNext, IsSeen, IsNumberWalk, chec
 use Rattle.pl_base.proofs.AnswerLaws.{ok_same}
 use Rattle.pl_form.specs.declared.file.Entry.{Entry}
 use Rattle.pl_form.specs.declared.file.Entry.TheVariants.{There, BadMark, Refused}
-use Rattle.pl_cone.specs.Skips.{is_memory, of_walk}
+use Rattle.pl_cone.specs.Skips.{skip_is_memory, of_walk}
 use Rattle.pl_cone.specs.Taken.{object_by, object_of}
 use Rattle.pl_cone.specs.declared.taken.Taken.{Taken}
 use Rattle.pl_cone.specs.declared.needs.Needs.{Needs}
@@ -35,9 +35,9 @@ use Rattle.pl_cone.specs.declared.walking.NumberWalk as walking
 use Rattle.pl_cone.proofs.NeedLaws.{slice_get_at}
 
 -- what is meant where a refusal is no want of memory
-pub answers_err : {X Y : Type 0} (e : Skip) (a : Result X Skip) (b : Result Y Skip) → (a ≡ Err e → b ≡ Err e) → MatchBool (is_memory e) ⊤ (a ≡ Err e) → MatchBool (is_memory e) ⊤ (b ≡ Err e)
+pub answers_err : {X Y : Type 0} (e : Skip) (a : Result X Skip) (b : Result Y Skip) → (a ≡ Err e → b ≡ Err e) → MatchBool (skip_is_memory e) ⊤ (a ≡ Err e) → MatchBool (skip_is_memory e) ⊤ (b ≡ Err e)
 answers_err e a b goes h =
-    elim (is_memory e) as (λ m. MatchBool m ⊤ (a ≡ Err e) → MatchBool m ⊤ (b ≡ Err e)) [
+    elim (skip_is_memory e) as (λ m. MatchBool m ⊤ (a ≡ Err e) → MatchBool m ⊤ (b ≡ Err e)) [
       | true ↦ λ _. tt
       | false ↦ λ is. goes is
     ] h
@@ -424,13 +424,13 @@ module _ (n : Needs) (are : AreNeeds n) (index : ℕ) (w : walking.NumberWalk) (
 
 -- the object of an index is looked at, and its names are added
 module _ (n : Needs) (are : AreNeeds n) (index : ℕ) (before : walking.NumberWalk) (number : ℕ) (o : Object) (at : slice_get before.numbers.items index ≡ Some number) (object : object_by_number n number ≡ Ok o) where
-  pub enter_checks : (e : Skip) → MatchBool (is_memory e) ⊤ (checked n index before o ≡ Err e) → MatchBool (is_memory e) ⊤ (entered n index before ≡ Err e)
+  pub enter_checks : (e : Skip) → MatchBool (skip_is_memory e) ⊤ (checked n index before o ≡ Err e) → MatchBool (skip_is_memory e) ⊤ (entered n index before ≡ Err e)
   enter_checks e =
       answers_err e (checked n index before o) (entered n index before)
       (λ refused. ap (entered_at n index before) at ∙ enter_refused n index before number o (needed_at n number) e object (sym (needed_is n are number o object).are) (sym (ap (checked_at n index before o) at) ∙ refused))
 
   pub enter_by : (after : walking.NumberWalk) (r : Result (Unit {0}) Skip) (numbers : List ℕ) → numbers ≡ needed_at n number → IsMore before after → checked n index before o ≡ Ok tt
-      → AnswersAs (λ _. names_of n after) is_memory r (run (added n) (names_of n before) numbers) → AnswersAs (λ _. state_after n index after) is_memory r (entered n index before)
+      → AnswersAs (λ _. names_of n after) skip_is_memory r (run (added n) (names_of n before) numbers) → AnswersAs (λ _. state_after n index after) skip_is_memory r (entered n index before)
   enter_by after (Ok u) numbers same more checks ran =
       ap (entered_at n index before) at
       ∙ enters n index before after number o at object more (sym (ap (checked_at n index before o) at) ∙ checks) numbers (sym (needed_is n are number o object).are ∙ ap (map (name_of n)) (sym same)) ran

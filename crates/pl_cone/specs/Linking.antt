@@ -5,7 +5,7 @@ use Rattle.pl_cone.specs.Candidates as candidates
 use Rattle.pl_cone.specs.Links.{IsLinkOf}
 use Rattle.pl_cone.specs.Plans.{cause_of}
 use Rattle.pl_cone.specs.Skipped.{skip_of}
-use Rattle.pl_cone.specs.Skips.{is_memory}
+use Rattle.pl_cone.specs.Skips.{skip_is_memory}
 use Rattle.pl_cone.specs.Table.{AreWalks, IsLinkBy, faults_of, folder_objects, refusals_in, walk_for, walked_by}
 use Rattle.pl_cone.specs.Taken.{AreTaken, WereTaken, files_in, is_library_entry, object_of}
 use Rattle.pl_cone.specs.declared.link.Link.{Link}
@@ -59,7 +59,7 @@ fits w t rows = candidates.fit (faults_of w.files.now) t.name (walked_by w.files
 
 abbrev pub LinksBy : walked.WalkedFiles → List ℕ → Result (Unit {0}) Skip → Result Link Skip → Type 0
 LinksBy w rows fit (Ok l) = (fit ≡ Ok tt) × IsLinkBy w.files.now w.index.now rows l
-LinksBy w rows fit (Err skip) = Answers is_memory (Err skip) fit
+LinksBy w rows fit (Err skip) = Answers skip_is_memory (Err skip) fit
 
 -- whether a row's name may be prelinked, and what its relocations find; its walk is not refused
 abbrev pub LinksRow : walked.WalkedFiles → ℕ → Result Link Skip → Type 0
@@ -110,5 +110,5 @@ AreLinked w l = IsSized w l × ((row : ℕ) → row < length w.files.now → IsR
 -- a link or a cause is put in; want of memory ends all
 abbrev pub Puts : ℕ → Result Link Skip → Linked → Linked → Result (Unit {0}) NoMemory → Type 0
 Puts row (Ok link) before after (Ok u) = (after.links.items ≡ slice_set before.links.items row link) × (after.causes.items ≡ before.causes.items)
-Puts row (Err skip) before after (Ok u) = (after.links.items ≡ before.links.items) × ((after.causes.items ≡ slice_set before.causes.items row (Some skip)) × (is_memory skip ≡ false))
+Puts row (Err skip) before after (Ok u) = (after.links.items ≡ before.links.items) × ((after.causes.items ≡ slice_set before.causes.items row (Some skip)) × (skip_is_memory skip ≡ false))
 Puts row made before after (Err fault) = Unit {0}

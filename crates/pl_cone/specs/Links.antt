@@ -5,7 +5,7 @@ use Rattle.pl_base.specs.Answers.{◌>>=◌, Answers, because}
 use Rattle.pl_base.specs.Each.{each}
 use Rattle.pl_cone.specs.Candidates.{blocks, check_links, of_link, zeros}
 use Rattle.pl_cone.specs.OneWord.{GivesOneWordBy}
-use Rattle.pl_cone.specs.Skips.{is_memory}
+use Rattle.pl_cone.specs.Skips.{skip_is_memory}
 use Rattle.pl_conflict.specs.Between.{HoldsBetween}
 use Rattle.pl_conflict.specs.Own.{FindAll}
 use Rattle.pl_cone.specs.declared.link.Link.{Link}
@@ -130,7 +130,7 @@ of_ordinary walked ordinary.NoMemory = skips.NoMemory
 -- the same by names
 abbrev pub FindsOwn : WalkLinking → Result (List (Option Found)) Skip → Type 0
 FindsOwn l (Ok found) = FindAll (objects_of l) found × (rows_have_in l (first_rows l) ≡ Ok tt)
-FindsOwn l (Err skip) = Answers is_memory (Err skip) (because (of_link l.scope.now) (rows_have_in l (first_rows l)))
+FindsOwn l (Err skip) = Answers skip_is_memory (Err skip) (because (of_link l.scope.now) (rows_have_in l (first_rows l)))
 
 -- ---- a program by its walk
 
@@ -141,4 +141,4 @@ TellLinks own walk links = (linking : WalkLinking) → linking.scope.now ≡ own
 -- what its relocations find where its walk links; or the refusal
 abbrev pub LinksProgram : Walked → Result Link Skip → Type 0
 LinksProgram own (Ok l) = FindAll (objects own) l.found × ((l.remaining ≡ []) × (check_links own ≡ Ok tt))
-LinksProgram own (Err skip) = Answers is_memory (Err skip) (check_links own)
+LinksProgram own (Err skip) = Answers skip_is_memory (Err skip) (check_links own)

@@ -8,7 +8,7 @@ use Rattle.std.specs.List.{All, list_any}
 use Rattle.std.specs.Ordering.{nat_cmp}
 use Rattle.pl_base.specs.Answers.{◌>>=◌, Answers, because}
 use Rattle.pl_base.specs.Each.{run}
-use Rattle.pl_cone.specs.Skips.{is_memory, of_walk}
+use Rattle.pl_cone.specs.Skips.{skip_is_memory, of_walk}
 use Rattle.pl_cone.specs.Taken.{WereTaken, object_by, object_of}
 use Rattle.pl_cone.specs.declared.needs.Needs.{Needs}
 use Rattle.pl_cone.specs.declared.skip.Skip.{Skip}
@@ -213,5 +213,5 @@ entered n index w = entered_at n index w (slice_get w.numbers.items index)
 -- a walk is added, or why it is refused; want of memory ends all
 abbrev pub AddsWalk : Result (List ℕ) Skip → FolderWalks → FolderWalks → Result (Unit {0}) NoMemory → Type 0
 AddsWalk (Ok rows) before after (Ok u) = (after.walks ≡ before.walks ++ rows ∷ []) × (after.causes ≡ before.causes ++ None ∷ [])
-AddsWalk (Err skip) before after (Ok u) = (after.walks ≡ before.walks ++ [] ∷ []) × ((after.causes ≡ before.causes ++ Some skip ∷ []) × (is_memory skip ≡ false))
+AddsWalk (Err skip) before after (Ok u) = (after.walks ≡ before.walks ++ [] ∷ []) × ((after.causes ≡ before.causes ++ Some skip ∷ []) × (skip_is_memory skip ≡ false))
 AddsWalk walk before after (Err fault) = Unit {0}

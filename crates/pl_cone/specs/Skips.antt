@@ -9,20 +9,20 @@ use Rattle.pl_cone.specs.declared.skip.ConeFault.TheVariants as stops
 use Rattle.pl_cone.specs.declared.skip.Skip.{Skip}
 use Rattle.pl_cone.specs.declared.skip.Skip.TheVariants.{NotThere, BadMark, Refused, Static, NeededIsProgram, TooMany, Form, TlsTooLarge, Undefined, UndefinedTls, TlsMismatch, CopyOutside, NoMemory}
 
-abbrev pub is_memory : Skip → Bool
-is_memory NoMemory = true
-is_memory (NotThere _) = false
-is_memory (BadMark _) = false
-is_memory (Refused _ _ _) = false
-is_memory (Static _) = false
-is_memory (NeededIsProgram _) = false
-is_memory (TooMany _) = false
-is_memory (Form _ _) = false
-is_memory TlsTooLarge = false
-is_memory (Undefined _ _) = false
-is_memory (UndefinedTls _ _) = false
-is_memory (TlsMismatch _ _) = false
-is_memory (CopyOutside _ _) = false
+abbrev pub skip_is_memory : Skip → Bool
+skip_is_memory NoMemory = true
+skip_is_memory (NotThere _) = false
+skip_is_memory (BadMark _) = false
+skip_is_memory (Refused _ _ _) = false
+skip_is_memory (Static _) = false
+skip_is_memory (NeededIsProgram _) = false
+skip_is_memory (TooMany _) = false
+skip_is_memory (Form _ _) = false
+skip_is_memory TlsTooLarge = false
+skip_is_memory (Undefined _ _) = false
+skip_is_memory (UndefinedTls _ _) = false
+skip_is_memory (TlsMismatch _ _) = false
+skip_is_memory (CopyOutside _ _) = false
 
 abbrev pub of_walk : WalkFault → Skip
 of_walk (walk.NeededIsProgram name) = NeededIsProgram name

@@ -4,7 +4,7 @@ ghost use Rattle.std.specs.Str.{bytes_eq};
 ghost use Rattle.pl_base.specs.Answers.{Answers};
 ghost use Rattle.pl_elf.specs.declared.range.Range.{Range};
 ghost use Rattle.pl_cone.specs.Calls as spec;
-ghost use Rattle.pl_cone.specs.Skips.{is_memory, stops_memory};
+ghost use Rattle.pl_cone.specs.Skips.{skip_is_memory, stops_memory};
 ghost use Rattle.pl_cone.specs.Skipped.{skip_of};
 ghost use Rattle.pl_cone.specs.Table as columns;
 ghost use Rattle.pl_cone.specs.Taken.{AreTaken, WereTaken, files_in};
@@ -63,7 +63,7 @@ fn cause_at(table: RunTable<'_>, row: usize) -> Result<(), Skip>
 pub fn prelinkable(alloc: Global, files: &[Taken], name: &str) -> Result<(), Skip>
     requires { WereTaken files.now }
     ensures { (region : Range) → AreTaken region files.now →
-        Answers is_memory result (skip_of (files_in files.now) region name.now) }
+        Answers skip_is_memory result (skip_of (files_in files.now) region name.now) }
 {
     let Some(row) = row_of(files, name) else {
         return Err(Skip::NotThere(Text::copy_of(alloc, name)?));

@@ -5,7 +5,7 @@ ghost use Rattle.pl_cone.specs.Candidates as candidates;
 ghost use Rattle.pl_cone.specs.Linking as spec;
 ghost use Rattle.pl_cone.specs.Links as by_walk;
 ghost use Rattle.pl_cone.specs.OneWord.{GivesOneWordBy};
-ghost use Rattle.pl_cone.specs.Skips.{is_memory};
+ghost use Rattle.pl_cone.specs.Skips.{skip_is_memory};
 ghost use Rattle.pl_cone.specs.Table as table;
 ghost use Rattle.pl_cone.specs.Taken.{WereTaken};
 ghost use Rattle.pl_scope.specs.Scope.{objects, IsSymbol};
@@ -55,7 +55,7 @@ fn is_static(taken: &Taken) -> bool
 
 /// Refuses a file that has a form fault.
 fn formed(alloc: Global, taken: &Taken) -> Result<(), Skip>
-    ensures { Answers is_memory result (spec.formed_by taken.now) }
+    ensures { Answers skip_is_memory result (spec.formed_by taken.now) }
 {
     match taken.fault {
         None => Ok(()),
@@ -70,7 +70,7 @@ fn formed(alloc: Global, taken: &Taken) -> Result<(), Skip>
 fn all_formed(alloc: Global, files: &[Taken], walk: &[u32]) -> Result<(), Skip>
     requires files { WereTaken files.now }
     requires walk { table.AreRows files.now walk.now }
-    ensures { Answers is_memory result (candidates.all_formed (table.faults_of files.now)
+    ensures { Answers skip_is_memory result (candidates.all_formed (table.faults_of files.now)
         (table.names_by files.now walk.now)) }
 {
     for row in walk {
@@ -159,7 +159,7 @@ fn others_linked(
     requires linking { by_walk.IsLinking linking.now }
     requires walk { by_walk.HaveLinks linking.now.scope.now walk.now links.now }
     requires links { by_walk.TellOfOthers linking.now walk.now links.now }
-    ensures { Answers is_memory result (because (candidates.of_link linking.now.scope.now)
+    ensures { Answers skip_is_memory result (because (candidates.of_link linking.now.scope.now)
         (by_walk.others_have linking.now)) }
 {
     match others_have_values(linking, walk, links) {

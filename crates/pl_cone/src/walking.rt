@@ -3,7 +3,7 @@ ghost use Rattle.std.specs.Prelude.{◌≡◌, ◌<◌, ◌≤◌, ◌+◌, ◌=
 ghost use Rattle.std.specs.List.{list_any};
 ghost use Rattle.pl_base.specs.Answers.{Answers, AnswersAs};
 ghost use Rattle.pl_base.specs.Each.{run};
-ghost use Rattle.pl_cone.specs.Skips.{is_memory};
+ghost use Rattle.pl_cone.specs.Skips.{skip_is_memory};
 ghost use Rattle.pl_cone.specs.Table as table;
 ghost use Rattle.pl_cone.specs.Needs as spec;
 ghost use Rattle.pl_cone.specs.Taken.{WereTaken, object_by};
@@ -62,7 +62,7 @@ fn add(alloc: Global, needs: &Needs<'_>, walking: &mut NumberWalk, number: u32) 
     requires number { number < length (spec.all_names needs.now) }
     ensures walking { spec.IsNumberWalk needs.now walking.new }
     ensures more { spec.IsMore walking.old walking.new }
-    ensures names { AnswersAs (λ _. spec.names_of needs.now walking.new) is_memory result
+    ensures names { AnswersAs (λ _. spec.names_of needs.now walking.new) skip_is_memory result
         (spec.added needs.now (spec.names_of needs.now walking.old) number) }
 {
     if walking.last[number as usize] == walking.walk {
@@ -88,7 +88,7 @@ fn append(
     requires needed { spec.AreNameNumbers needs.now needed.now }
     ensures walking { spec.IsNumberWalk needs.now walking.new }
     ensures more { spec.IsMore walking.old walking.new }
-    ensures names { AnswersAs (λ _. spec.names_of needs.now walking.new) is_memory result
+    ensures names { AnswersAs (λ _. spec.names_of needs.now walking.new) skip_is_memory result
         (run (spec.added needs.now) (spec.names_of needs.now walking.old) needed.now) }
 {
     for number in needed {
@@ -101,7 +101,7 @@ fn append(
 fn object_in<'f>(alloc: Global, taken: &'f Taken) -> Result<&'f Object, Skip>
     ensures ok { IfOk result (λ object. spec.object_for taken.now.name taken.now.entry
         ≡ Ok object.now) }
-    ensures err { IfErr result (λ skip. Answers is_memory (Err skip)
+    ensures err { IfErr result (λ skip. Answers skip_is_memory (Err skip)
         (spec.object_for taken.now.name taken.now.entry)) }
 {
     match &taken.entry {
@@ -119,7 +119,7 @@ fn object_in<'f>(alloc: Global, taken: &'f Taken) -> Result<&'f Object, Skip>
 /// The object of a number's name, or why it has none.
 fn object_of<'f>(alloc: Global, needs: &Needs<'f>, number: u32) -> Result<&'f Object, Skip>
     ensures ok { IfOk result (λ object. spec.object_by_number needs.now number ≡ Ok object.now) }
-    ensures err { IfErr result (λ skip. Answers is_memory (Err skip)
+    ensures err { IfErr result (λ skip. Answers skip_is_memory (Err skip)
         (spec.object_by_number needs.now number)) }
 {
     match needs.files.get(number as usize) {
@@ -166,7 +166,7 @@ fn check(
     requires walking { spec.IsNumberWalk needs.now walking.now }
     requires index { index < length walking.now.numbers.items }
     requires object { spec.IsObjectAt needs.now index walking.now object.now }
-    ensures { Answers is_memory result (spec.checked needs.now index walking.now object.now) }
+    ensures { Answers skip_is_memory result (spec.checked needs.now index walking.now object.now) }
 {
     if index == 0 {
         return Ok(());
@@ -193,8 +193,8 @@ fn enter(
     requires walking { spec.IsNumberWalk needs.now walking.old }
     ensures walking { spec.IsNumberWalk needs.now walking.new }
     ensures more { spec.IsMore walking.old walking.new }
-    ensures state { AnswersAs (λ _. spec.state_after needs.now index walking.new) is_memory result
-        (spec.entered needs.now index walking.old) }
+    ensures state { AnswersAs (λ _. spec.state_after needs.now index walking.new) skip_is_memory
+        result (spec.entered needs.now index walking.old) }
 {
     if index >= walking.numbers.len() {
         return Ok(());
@@ -226,7 +226,7 @@ fn walk_of(
     requires row { row < length needs.now.files.now }
     ensures walking { spec.MayBeginNext needs.now (row + 1) walking.new }
     ensures ok { IfOk result (table.IsWalkAt needs.now.files.now row) }
-    ensures err { IfErr result (λ skip. Answers is_memory (Err skip)
+    ensures err { IfErr result (λ skip. Answers skip_is_memory (Err skip)
         (table.walk_at needs.now.files.now row)) }
 {
     begin(walking, needs, row)?;

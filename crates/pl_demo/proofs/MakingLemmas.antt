@@ -11,17 +11,17 @@ use Rattle.pl_build.specs.Build.{Builds, build}
 use Rattle.pl_build.specs.declared.checks.Fault.{Fault}
 use Rattle.pl_build.specs.declared.fault.RecipeFault.{RecipeFault}
 use Rattle.pl_build.specs.declared.fault.RecipeFault.TheVariants.{Bad, NoMemory}
-use Rattle.pl_folder.specs.Effects.{appended, created}
+use Rattle.pl_folder.specs.Effects.{files_after_append, files_after_create}
 use Rattle.pl_folder.proofs.FolderLaws.{there}
 use Rattle.pl_demo.specs.Made.{built, if_stored, is_bad, made, with_file, with_made}
 use Rattle.pl_demo.specs.declared.making.TheConstants.{RECIPE}
 
 -- it is there as soon as it was created,
-pub is_there : (name : List ℕ) (a b : Files) → b ≡ created a name → contains_key b name ≡ true
+pub is_there : (name : List ℕ) (a b : Files) → b ≡ files_after_create a name → contains_key b name ≡ true
 is_there name a b made = ap (λ (fs : Files). contains_key fs name) made ∙ there a name []
 
 -- and has its bytes after they were added
-pub was_put : (name bytes : List ℕ) (a b c : Files) → b ≡ created a name → c ≡ appended b name bytes → c ≡ insert a name bytes
+pub was_put : (name bytes : List ℕ) (a b c : Files) → b ≡ files_after_create a name → c ≡ files_after_append b name bytes → c ≡ insert a name bytes
 was_put name bytes a b c made grown =
     grown
     ∙ ap (λ (fs : Files). insert fs name (unwrap_or (get fs name) [] ++ bytes)) made

@@ -3,7 +3,7 @@ ghost use Rattle.std.specs.Prelude.{◌≡◌, ◌≢◌, IfOk, None, OnOk, fold
 ghost use Rattle.std.specs.FinMap.{contains_key, insert};
 ghost use Rattle.pl_base.specs.Names.{IsNameLength};
 ghost use Rattle.pl_folder.specs.Calls.{IsPlain};
-ghost use Rattle.pl_folder.specs.Effects.{appended};
+ghost use Rattle.pl_folder.specs.Effects.{files_after_append};
 ghost use Rattle.pl_folder.specs.InMemory.{quiet_files};
 ghost use Rattle.pl_demo.specs.Made as spec;
 
@@ -69,7 +69,7 @@ fn append(alloc: Global, folder: &mut QuietFolder, name: &str, bytes: &[u8]) -> 
     requires length { IsNameLength name.now }
     requires there { contains_key (quiet_files folder.old) name.now ≡ true }
     ensures { OnOk result (quiet_files folder.new
-        ≡ appended (quiet_files folder.old) name.now bytes.now) }
+        ≡ files_after_append (quiet_files folder.old) name.now bytes.now) }
 {
     match folder.append(alloc, name, bytes) {
         Ok(()) => Ok(()),

@@ -1,4 +1,7 @@
 // The options of the command line.
+ghost use Rattle.std.specs.Prelude.{◌≡◌};
+ghost use Rattle.std.specs.Str.{bytes_eq};
+ghost use Rattle.pl_explain.specs.Options as spec;
 
 /// An option of the command line. The first fills the room that a list of them has.
 #[derive(Clone, Copy, Default, PartialEq, Eq)]
@@ -47,19 +50,46 @@ const CHOICES: [Choice; 19] = [
     Choice::Weave,
 ];
 
+fn is_named(choice: Choice, name: &str) -> bool
+    ensures { result ≡ bytes_eq (spec.name_of choice) name.now }
+{
+    choice.name() == name
+}
+
+fn has_letter(choice: Choice, letter: u8) -> bool
+    ensures { result ≡ spec.is_letter letter (spec.letter_of choice) }
+{
+    match choice.letter() {
+        Some(other) => other == letter,
+        None => false,
+    }
+}
+
 impl Choice {
-    /// The option that is spelled so behind two dashes.
-    pub fn by_name(name: &str) -> Option<Choice> {
-        for choice in CHOICES.iter() {
-            if choice.name() == name {
-                return Some(*choice);
-            }
-        }
-        None
+    /// The option that is spelled so behind two dashes, if one is.
+    pub fn by_name(name: &str) -> Option<Choice>
+        ensures { result ≡ spec.by_name name.now }
+    {
+        CHOICES
+            .iter()
+            .copied()
+            .find(|choice| is_named(*choice, name))
+    }
+
+    /// The option of a letter, if it is one's.
+    pub fn by_letter(letter: u8) -> Option<Choice>
+        ensures { result ≡ spec.by_letter letter }
+    {
+        CHOICES
+            .iter()
+            .copied()
+            .find(|choice| has_letter(*choice, letter))
     }
 
     /// How the option is spelled behind two dashes.
-    fn name(self) -> &'static str {
+    fn name(self) -> &'static str
+        ensures { result.now ≡ spec.name_of self }
+    {
         match self {
             Choice::Load => "load",
             Choice::Busy => "busy",
@@ -83,22 +113,26 @@ impl Choice {
         }
     }
 
-    /// The option of a letter.
-    pub fn by_letter(letter: u8) -> Option<Choice> {
-        match letter {
-            b'a' => Some(Choice::All),
-            b'n' => Some(Choice::DryRun),
-            b'v' => Some(Choice::Verbose),
-            b'm' => Some(Choice::ConserveMemory),
-            b'u' => Some(Choice::Undo),
-            b'y' => Some(Choice::Verify),
-            b'p' => Some(Choice::PrintCache),
+    /// The letter of the option, if it has one.
+    fn letter(self) -> Option<u8>
+        ensures { result ≡ spec.letter_of self }
+    {
+        match self {
+            Choice::All => Some(b'a'),
+            Choice::DryRun => Some(b'n'),
+            Choice::Verbose => Some(b'v'),
+            Choice::ConserveMemory => Some(b'm'),
+            Choice::Undo => Some(b'u'),
+            Choice::Verify => Some(b'y'),
+            Choice::PrintCache => Some(b'p'),
             _ => None,
         }
     }
 
-    /// How the option is written, by its letter if it has one.
-    pub fn word(self) -> &'static str {
+    /// How the option is written: by its letter, if it has one, or by its name behind two dashes.
+    pub fn word(self) -> &'static str
+        ensures { result.now ≡ spec.word_of self }
+    {
         match self {
             Choice::Load => "--load",
             Choice::Busy => "--busy",

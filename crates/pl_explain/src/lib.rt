@@ -19,7 +19,6 @@ mod refusal;
 mod table;
 #[cfg(test)]
 mod tests;
-mod values;
 mod words;
 mod wrong;
 

@@ -1,8 +1,11 @@
 // Which of the words of a command line is wrong: first each word by itself, in their order, and then what does not go together.
+ghost use Rattle.std.specs.Prelude.{◌≡◌};
+ghost use Rattle.pl_explain.specs.Options as spec;
+
 use crate::choice::Choice;
-use crate::values::{is_number, is_policy, is_range};
 use crate::wrong::Wrong;
 use arrayvec::ArrayVec;
+use pl_words::{decimal, policy_in, range};
 
 /// How many options there are.
 const OPTIONS: usize = 19;
@@ -19,11 +22,13 @@ struct Given<'a> {
 }
 
 /// Whether the text is of the form of the option's value.
-fn is_value(choice: Choice, text: &str) -> bool {
+fn is_value(choice: Choice, text: &str) -> bool
+    ensures { result ≡ spec.is_value choice text.now }
+{
     match choice {
-        Choice::Busy | Choice::Region => is_range(text),
-        Choice::Policy => is_policy(text),
-        Choice::Demo => is_number(text),
+        Choice::Busy | Choice::Region => range(text).is_ok(),
+        Choice::Policy => policy_in(text).is_ok(),
+        Choice::Demo => decimal(text).is_ok(),
         _ => true,
     }
 }

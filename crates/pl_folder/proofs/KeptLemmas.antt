@@ -7,7 +7,7 @@ use Rattle.std.specs.FinMap.{get, insert, remove, get-insert, get-remove}
 use Rattle.pl_base.specs.Files.{Files}
 use Rattle.pl_base.proofs.FilesLaws.{same_name}
 use Rattle.pl_folder.specs.Disk.{Name, Names, Content, State, IsBelow, IsWhole, bytes_of, kept, names_of, read, same}
-use Rattle.pl_folder.specs.Effects.{appended, bytes_at, created, renamed}
+use Rattle.pl_folder.specs.Effects.{files_after_append, bytes_at, files_after_create, files_after_rename}
 use Rattle.pl_folder.specs.Kept.{IsApart, IsKept}
 use Rattle.pl_folder.specs.States as state
 use Rattle.pl_folder.specs.States.{with_file}
@@ -29,13 +29,13 @@ file_there : (files : Files) (s : State) (name : Name) → IsKept files s → is
 file_there files s name is there = found_file (names_of s name) s.files (ap (λ (o : Option (List ℕ)). is_some o) (sym (is.reads name)) ∙ there)
 
 module _ (files : Files) (s : State) (name : Name) (is : IsKept files s) where
-  pub kept_created : IsKept (created files name) (state.created name s)
+  pub kept_created : IsKept (files_after_create files name) (state.created name s)
   kept_created = record { reads = reads; whole = (created_writing name s is.whole).whole; apart = apart }
     where
       new_file : bytes_of (with_file s.count (record { bytes = []; is_firm = false }) s.files) (Some s.count) ≡ Some []
       new_file = ap (λ (x : Content). Some x.bytes) (cond-true (s.count == s.count) _ _ (grind arith))
 
-      reads : (n : Name) → get (created files name) n ≡ read (state.created name s) n
+      reads : (n : Name) → get (files_after_create files name) n ≡ read (state.created name s) n
       reads n = get-insert nat_list_cmp_total files name [] n ∙ ⊎_elim
           (λ hit.
           cond-true (same n name) _ _ hit
@@ -78,11 +78,11 @@ module _ (files : Files) (s : State) (name : Name) (is : IsKept files s) where
       ∙ sym (other_bytes name s.files (record { bytes = (s.files file).bytes ++ more; is_firm = false }) file (names_of s n) (λ e. both_ways (same n name) missed (is.apart n name file e at))))
       (cases_Bool (same n name))
 
-  appended_at : (more : List ℕ) (o : Option ℕ) → names_of s name ≡ o → is_some (get files name) ≡ true → IsKept (appended files name more) (state.appended_to o more s)
+  appended_at : (more : List ℕ) (o : Option ℕ) → names_of s name ≡ o → is_some (get files name) ≡ true → IsKept (files_after_append files name more) (state.appended_to o more s)
   appended_at more None at there = absurd (false≢true (sym (ap (λ (o : Option (List ℕ)). is_some o) (is.reads name ∙ ap (bytes_of s.files) at)) ∙ there))
   appended_at more (Some file) at there = record { reads = given (bytes_at files name ++ more) more file at refl; whole = record { below = is.whole.below }; apart = is.apart }
 
-  pub kept_appended : (more : List ℕ) → is_some (get files name) ≡ true → IsKept (appended files name more) (state.appended name more s)
+  pub kept_appended : (more : List ℕ) → is_some (get files name) ≡ true → IsKept (files_after_append files name more) (state.appended name more s)
   kept_appended more there = appended_at more (names_of s name) refl there
 
   firmed_apart : (o : Option ℕ) → IsApart (state.firmed_at o s)
@@ -108,7 +108,7 @@ module _ (files : Files) (s : State) (name : Name) (is : IsKept files s) where
       apart n m file here there = is.apart n m file (left n file here) (left m file there)
 
 module _ (files : Files) (s : State) (from to : Name) (is : IsKept files s) where
-  moved_at : (o : Option ℕ) → names_of s from ≡ o → is_some (get files from) ≡ true → IsKept (renamed files from to) (state.moved o from to s)
+  moved_at : (o : Option ℕ) → names_of s from ≡ o → is_some (get files from) ≡ true → IsKept (files_after_rename files from to) (state.moved o from to s)
   moved_at None at there = absurd (false≢true (sym (ap (λ (o : Option (List ℕ)). is_some o) (is.reads from ∙ ap (bytes_of s.files) at)) ∙ there))
   moved_at (Some file) at there = record { reads = reads; whole = moved_whole from to s (Some file) (subst (IsBelow s.count) at (names_below s is.whole from)) is.whole; apart = apart }
     where
@@ -117,7 +117,7 @@ module _ (files : Files) (s : State) (from to : Name) (is : IsKept files s) wher
       bytes_move false true o = refl
       bytes_move false false o = refl
 
-      reads : (n : Name) → get (renamed files from to) n ≡ read (state.moved (Some file) from to s) n
+      reads : (n : Name) → get (files_after_rename files from to) n ≡ read (state.moved (Some file) from to s) n
       reads n =
           get-insert nat_list_cmp_total (remove files from) to (bytes_at files from) n
           ∙ ap (λ o. cond (same n to) (Some (bytes_at files from)) o) (get-remove nat_list_cmp_total files from n ∙ ap (λ o. cond (same n from) None o) (is.reads n))
@@ -143,5 +143,5 @@ module _ (files : Files) (s : State) (from to : Name) (is : IsKept files s) wher
           (cases_Bool (same m to)))
           (cases_Bool (same n to))
 
-  pub kept_renamed : is_some (get files from) ≡ true → IsKept (renamed files from to) (state.renamed from to s)
+  pub kept_renamed : is_some (get files from) ≡ true → IsKept (files_after_rename files from to) (state.renamed from to s)
   kept_renamed there = moved_at (names_of s from) refl there

@@ -9,7 +9,7 @@ use Rattle.pl_folder.specs.declared.call.Call.TheVariants.{Nothing, Create, Appe
 use Rattle.pl_folder.specs.declared.memory_folder.MemoryFolder.{MemoryFolder}
 use Rattle.pl_folder.specs.declared.name.Name.{Name}
 use Rattle.pl_folder.specs.Disk.{Disk, State, after}
-use Rattle.pl_folder.specs.Effects.{appended, created, renamed}
+use Rattle.pl_folder.specs.Effects.{files_after_append, files_after_create, files_after_rename}
 use Rattle.pl_folder.specs.Entries.{name_bytes}
 use Rattle.pl_folder.specs.InMemory.{folder_disk, folder_files}
 use Rattle.pl_folder.specs.Kept.{IsKept}
@@ -35,23 +35,23 @@ pub kept_after : (folder : MemoryFolder) (call : Call) (calls : List Call) (file
 kept_after folder call calls files pushed kept = subst (λ (d : Disk). IsKept files d.now) (sym (disk_after folder folder call calls pushed refl refl)) kept
 
 module _ (folder : MemoryFolder) (files : Files) (name : List ℕ) (text : Name) (named : name_bytes text ≡ name) where
-  pub create_kept : files ≡ created (folder_files folder) name → IsKept files (step_of (Create text) (folder_disk folder).now)
+  pub create_kept : files ≡ files_after_create (folder_files folder) name → IsKept files (step_of (Create text) (folder_disk folder).now)
   create_kept is = subst (λ f. IsKept f (state.created (name_bytes text) (folder_disk folder).now)) (sym is)
-      (subst (λ n. IsKept (created (folder_files folder) name) (state.created n (folder_disk folder).now)) (sym named) (kept_created (folder_files folder) (folder_disk folder).now name folder.kept))
+      (subst (λ n. IsKept (files_after_create (folder_files folder) name) (state.created n (folder_disk folder).now)) (sym named) (kept_created (folder_files folder) (folder_disk folder).now name folder.kept))
 
-  pub append_kept : (more : Vec ℕ Global) (bytes : List ℕ) → more.items ≡ bytes → is_some (get (folder_files folder) name) ≡ true → files ≡ appended (folder_files folder) name bytes → IsKept files (step_of (Append text more) (folder_disk folder).now)
+  pub append_kept : (more : Vec ℕ Global) (bytes : List ℕ) → more.items ≡ bytes → is_some (get (folder_files folder) name) ≡ true → files ≡ files_after_append (folder_files folder) name bytes → IsKept files (step_of (Append text more) (folder_disk folder).now)
   append_kept more bytes same there is = subst (λ f. IsKept f (state.appended (name_bytes text) more.items (folder_disk folder).now)) (sym is)
-      (subst (λ n. IsKept (appended (folder_files folder) name bytes) (state.appended n more.items (folder_disk folder).now)) (sym named)
-      (subst (λ b. IsKept (appended (folder_files folder) name bytes) (state.appended name b (folder_disk folder).now)) (sym same)
+      (subst (λ n. IsKept (files_after_append (folder_files folder) name bytes) (state.appended n more.items (folder_disk folder).now)) (sym named)
+      (subst (λ b. IsKept (files_after_append (folder_files folder) name bytes) (state.appended name b (folder_disk folder).now)) (sym same)
       (kept_appended (folder_files folder) (folder_disk folder).now name folder.kept bytes there)))
 
   pub firm_kept : IsKept (folder_files folder) (step_of (Firm text) (folder_disk folder).now)
   firm_kept = subst (λ n. IsKept (folder_files folder) (state.firmed n (folder_disk folder).now)) (sym named) (kept_firmed (folder_files folder) (folder_disk folder).now name folder.kept)
 
-  pub rename_kept : (to : List ℕ) (other : Name) → name_bytes other ≡ to → is_some (get (folder_files folder) name) ≡ true → files ≡ renamed (folder_files folder) name to → IsKept files (step_of (Rename text other) (folder_disk folder).now)
+  pub rename_kept : (to : List ℕ) (other : Name) → name_bytes other ≡ to → is_some (get (folder_files folder) name) ≡ true → files ≡ files_after_rename (folder_files folder) name to → IsKept files (step_of (Rename text other) (folder_disk folder).now)
   rename_kept to other other_named there is = subst (λ f. IsKept f (state.renamed (name_bytes text) (name_bytes other) (folder_disk folder).now)) (sym is)
-      (subst (λ n. IsKept (renamed (folder_files folder) name to) (state.renamed n (name_bytes other) (folder_disk folder).now)) (sym named)
-      (subst (λ n. IsKept (renamed (folder_files folder) name to) (state.renamed name n (folder_disk folder).now)) (sym other_named)
+      (subst (λ n. IsKept (files_after_rename (folder_files folder) name to) (state.renamed n (name_bytes other) (folder_disk folder).now)) (sym named)
+      (subst (λ n. IsKept (files_after_rename (folder_files folder) name to) (state.renamed name n (folder_disk folder).now)) (sym other_named)
       (kept_renamed (folder_files folder) (folder_disk folder).now name to folder.kept there)))
 
   pub remove_kept : files ≡ remove (folder_files folder) name → IsKept files (step_of (Remove text) (folder_disk folder).now)

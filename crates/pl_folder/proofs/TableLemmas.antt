@@ -17,7 +17,7 @@ use Rattle.pl_base.specs.Files.{Files}
 use Rattle.pl_base.proofs.FilesLaws.{same, same_name, equal_files, insert-removed, insert_same}
 use Rattle.pl_folder.specs.declared.file.File.{File}
 use Rattle.pl_folder.specs.Entries.{name_bytes, entry_of, entries_of, are_distinct}
-use Rattle.pl_folder.specs.Effects.{appended, renamed}
+use Rattle.pl_folder.specs.Effects.{files_after_append, files_after_rename}
 
 abbrev pub Entry : Type 0
 Entry = List ℕ × List ℕ
@@ -177,22 +177,22 @@ distinct_files_push files file distinct new =
 -- ---- the calls
 
 -- a file of a name moved to another, in place of the one that had it
-pub moved : (files : Files) (from to bytes : List ℕ) → get files from ≡ Some bytes → insert (finite.remove (finite.remove files from) to) to bytes ≡ renamed files from to
+pub moved : (files : Files) (from to bytes : List ℕ) → get files from ≡ Some bytes → insert (finite.remove (finite.remove files from) to) to bytes ≡ files_after_rename files from to
 moved files from to bytes is =
     insert-removed (finite.remove files from) to bytes
     ∙ ap (λ (o : Option (List ℕ)). insert (finite.remove files from) to (unwrap_or o [])) (sym is)
 
 -- bytes more at the end of a file
-pub grown : (files : Files) (name bytes more : List ℕ) → get files name ≡ Some bytes → insert (finite.remove files name) name (bytes ++ more) ≡ appended files name more
+pub grown : (files : Files) (name bytes more : List ℕ) → get files name ≡ Some bytes → insert (finite.remove files name) name (bytes ++ more) ≡ files_after_append files name more
 grown files name bytes more is =
     insert-removed files name (bytes ++ more)
     ∙ ap (λ (o : Option (List ℕ)). insert files name (unwrap_or o [] ++ more)) (sym is)
 
 -- no bytes more
-pub none_more : (files : Files) (name bytes : List ℕ) → is_some (get files name) ≡ true → appended files name (take 0 bytes) ≡ files
+pub none_more : (files : Files) (name bytes : List ℕ) → is_some (get files name) ≡ true → files_after_append files name (take 0 bytes) ≡ files
 none_more files name bytes there = by_case (get files name) refl there
   where
-    by_case : (o : Option (List ℕ)) → get files name ≡ o → is_some o ≡ true → appended files name (take 0 bytes) ≡ files
+    by_case : (o : Option (List ℕ)) → get files name ≡ o → is_some o ≡ true → files_after_append files name (take 0 bytes) ≡ files
     by_case None is there = absurd (false≢true there)
     by_case (Some old) is there =
         ap (λ (o : Option (List ℕ)). insert files name (unwrap_or o [] ++ [])) is

@@ -11,16 +11,16 @@ abbrev pub bytes_at : Files → List ℕ → List ℕ
 bytes_at files name = unwrap_or (get files name) []
 
 -- `create`: the name has an empty file
-abbrev pub created : Files → List ℕ → Files
-created files name = insert files name []
+abbrev pub files_after_create : Files → List ℕ → Files
+files_after_create files name = insert files name []
 
 -- `append`: the file has these bytes more at its end
-abbrev pub appended : Files → List ℕ → List ℕ → Files
-appended files name bytes = insert files name (bytes_at files name ++ bytes)
+abbrev pub files_after_append : Files → List ℕ → List ℕ → Files
+files_after_append files name bytes = insert files name (bytes_at files name ++ bytes)
 
 -- `rename`: one name is gone, and the other has its file
-abbrev pub renamed : Files → List ℕ → List ℕ → Files
-renamed files from to = insert (remove files from) to (bytes_at files from)
+abbrev pub files_after_rename : Files → List ℕ → List ℕ → Files
+files_after_rename files from to = insert (remove files from) to (bytes_at files from)
 
 -- a change, of the files as they read and of the state of the disk
 pub record Update : Type 0 where
@@ -28,16 +28,16 @@ pub record Update : Type 0 where
   pub state : State → State
 
 abbrev pub creates : List ℕ → Update
-creates name = record { files = λ files. created files name; state = state.created name }
+creates name = record { files = λ files. files_after_create files name; state = state.created name }
 
 abbrev pub appends : List ℕ → List ℕ → Update
-appends name bytes = record { files = λ files. appended files name bytes; state = state.appended name bytes }
+appends name bytes = record { files = λ files. files_after_append files name bytes; state = state.appended name bytes }
 
 abbrev pub firms : List ℕ → Update
 firms name = record { files = λ files. files; state = state.firmed name }
 
 abbrev pub renames : List ℕ → List ℕ → Update
-renames from to = record { files = λ files. renamed files from to; state = state.renamed from to }
+renames from to = record { files = λ files. files_after_rename files from to; state = state.renamed from to }
 
 abbrev pub removes : List ℕ → Update
 removes name = record { files = λ files. remove files name; state = state.removed name }
@@ -90,8 +90,8 @@ abbrev pub DoesOrNot : Update → Effect
 DoesOrNot step = record { files = SameFiles; disk = StepsDiskOrNot step.state }
 
 abbrev pub GrowsFiles : List ℕ → List ℕ → Ending → Files → Files → Type 0
-GrowsFiles name bytes Done old new = new ≡ appended old name bytes
-GrowsFiles name bytes Broken old new = (n : ℕ) × (n ≤ length bytes) × (new ≡ appended old name (take n bytes))
+GrowsFiles name bytes Done old new = new ≡ files_after_append old name bytes
+GrowsFiles name bytes Broken old new = (n : ℕ) × (n ≤ length bytes) × (new ≡ files_after_append old name (take n bytes))
 GrowsFiles name bytes Undone old new = new ≡ old
 
 abbrev pub GrowsDisk : List ℕ → List ℕ → Ending → Disk → Disk → Type 0

@@ -11,8 +11,8 @@ abbrev pub table_files : FileTable → Files
 table_files table = from_entries (entries_of table.files.items)
 
 -- a table has the files that it had
-abbrev pub HasSameFiles : FileTable → FileTable → Type 0
-HasSameFiles old new = table_files new ≡ table_files old
+abbrev pub TableHasSameFiles : FileTable → FileTable → Type 0
+TableHasSameFiles old new = table_files new ≡ table_files old
 
 -- one file more takes no memory
 abbrev pub HasRoom : FileTable → Type 0

@@ -7,7 +7,7 @@ use Rattle.pl_object.specs.declared.object.Object.{Object}
 use Rattle.pl_object.specs.declared.refusal.Refusal.{Refusal}
 use Rattle.pl_object.specs.declared.refusal.Refusal.TheVariants as refusals
 use Rattle.pl_form.specs.Files.{file_in}
-use Rattle.pl_form.specs.Marks.{has_mark, IsNoForm, IsBadMark, IsPlain, IsFault, is_memory, as_file}
+use Rattle.pl_form.specs.Marks.{has_mark, IsNoForm, IsBadMark, IsPlain, IsFault, file_fault_is_memory, as_file}
 use Rattle.pl_form.specs.Reading.{marked_of}
 use Rattle.pl_form.specs.declared.fault.FileFault.TheVariants.{Refused}
 use Rattle.pl_form.specs.declared.file.File.TheVariants.{Plain}
@@ -31,7 +31,7 @@ is_plain file none mark = record { none = no_form file none; plain = sym mark }
 pub object_told : (file : List ℕ) (x : Object) → None ≡ marked_of file → false ≡ has_mark file → reads file ≡ Ok x → file_in file ≡ Ok (Plain x)
 object_told file x none mark e = plain_are_told file (is_plain file none mark) ∙ ap as_file e
 
-pub refused_told : (file : List ℕ) (r : Refusal) → None ≡ marked_of file → false ≡ has_mark file → Answers object_memory (Err r) (reads file) → Answers is_memory (Err (Refused r)) (file_in file)
+pub refused_told : (file : List ℕ) (r : Refusal) → None ≡ marked_of file → false ≡ has_mark file → Answers object_memory (Err r) (reads file) → Answers file_fault_is_memory (Err (Refused r)) (file_in file)
 refused_told file refusals.NoMemory none mark e = tt
 refused_told file (refusals.Clause number argument) none mark e = plain_are_told file (is_plain file none mark) ∙ ap as_file e
 

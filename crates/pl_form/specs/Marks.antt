@@ -131,10 +131,10 @@ as_file (Err refusal) = Err (Refused refusal)
 
 -- ---- answers
 
-abbrev pub is_memory : FileFault → Bool
-is_memory BadMark = false
-is_memory (Refused refusals.NoMemory) = true
-is_memory (Refused (refusals.Clause number argument)) = false
+abbrev pub file_fault_is_memory : FileFault → Bool
+file_fault_is_memory BadMark = false
+file_fault_is_memory (Refused refusals.NoMemory) = true
+file_fault_is_memory (Refused (refusals.Clause number argument)) = false
 
 -- what an answer says of a file is so
 abbrev pub IsFile : List ℕ → File → Type 0

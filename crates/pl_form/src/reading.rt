@@ -19,7 +19,7 @@ pub fn read_file(alloc: Global, bytes: &[u8]) -> Result<File, FileFault>
     ensures is { IfOk result (λ file. spec.IsFile bytes.now file) }
     ensures refused { IfErr result (λ fault. spec.IsFault bytes.now fault) }
     // It is a function of the bytes, unless there is no memory.
-    ensures exact { Answers spec.is_memory result (whole.file_in bytes.now) }
+    ensures exact { Answers spec.file_fault_is_memory result (whole.file_in bytes.now) }
     // The program headers of a form lie in it, and have the original's segments.
     ensures segments { IfOk result (λ file. whole.BearsIfMarked bytes.now file) }
 {

@@ -43,11 +43,12 @@ fn table(
         bytes.extend_from_slice(&word.to_le_bytes()[..4])?;
     }
     bytes.truncate(size as usize);
-    Ok(Table {
-        words: Rows::from_vec(bytes),
-        gnu,
-        symbols,
-    })
+    let bytes = Rows::from_vec(bytes);
+    if gnu {
+        Ok(Table::gnu(bytes, symbols))
+    } else {
+        Ok(Table::sysv(bytes, symbols))
+    }
 }
 
 // Forms of tables: what a table is like, its count of symbols, how many bytes it has, 1 where it is well formed, else 0, and its words.

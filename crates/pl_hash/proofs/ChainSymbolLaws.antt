@@ -7,14 +7,14 @@ use Rattle.std.proofs.lemmas.Bool.{false≢true, false_from_ne_true, eqb-true, e
 use Rattle.std.proofs.lemmas.Map.Keys.{IsDistinct-cons, IsDistinct-head, IsDistinct-tail}
 use Rattle.std.proofs.lemmas.Nat.{mod_below}
 use Rattle.std.proofs.lemmas.Option.{same_Some}
-use Rattle.pl_hash.specs.declared.table.Table.{Table}
+use Rattle.pl_hash.specs.Table.{HashTable}
 use Rattle.pl_hash.specs.declared.table.TheConstants.{WORD_SIZE}
 use Rattle.pl_hash.specs.Table.{bucket_count, admits, matches, link_at}
 use Rattle.pl_hash.specs.Chain.{chain_from, chain, following, head, is_linked, IsLinked, IsWellFormed}
 use Rattle.pl_hash.specs.ChainSymbols.{matching, chain_symbols, is_chain_symbol, rest_after, rest_from}
 use Rattle.pl_hash.proofs.ChainLaws.{opened, chain_from-none, chain_from-zero, more_steps, same_chain}
 
-pub IsLinked-from : (t : Table) (index : ℕ) → is_linked t index ≡ true → IsLinked t index
+pub IsLinked-from : (t : HashTable) (index : ℕ) → is_linked t index ≡ true → IsLinked t index
 unfolding is_linked
 IsLinked-from t index h =
     let p = and_parts _ _ h in
@@ -23,7 +23,7 @@ IsLinked-from t index h =
 
 -- ---- a chain from a symbol on
 
-opened_within : (t : Table) (n index : ℕ) (xs : List ℕ) → chain_from t n (Some index) ≡ Some xs
+opened_within : (t : HashTable) (n index : ℕ) (xs : List ℕ) → chain_from t n (Some index) ≡ Some xs
     → (rest : List ℕ) × (is_linked t index ≡ true) × (chain_from t n (following t index) ≡ Some rest) × (xs ≡ index ∷ rest)
 opened_within t zero index xs e = let none = chain_from-zero t index in absurd (cc)
 opened_within t (suc n) index xs e =
@@ -35,13 +35,13 @@ chain_value (Some xs) h = (xs, refl)
 chain_value None h = absurd (false≢true h)
 
 -- the chain from a symbol on has it first; the rest is the chain from the following one
-pub record Opens (t : Table) (index : ℕ) : Type 0 where
+pub record Opens (t : HashTable) (index : ℕ) : Type 0 where
   pub rest : List ℕ
   pub linked : is_linked t index ≡ true
   pub whole : chain t (Some index) ≡ Some (index ∷ rest)
   pub more : chain t (following t index) ≡ Some rest
 
-pub opens : (t : Table) (index : ℕ) → IsSome (chain t (Some index)) → Opens t index
+pub opens : (t : HashTable) (index : ℕ) → IsSome (chain t (Some index)) → Opens t index
 unfolding chain
 opens t index h =
     let v = chain_value (chain_from t t.symbols (Some index)) h in
@@ -50,25 +50,25 @@ opens t index h =
 
 -- ---- the first that may have a hash
 
-abbrev pub left : Table → Option ℕ → ℕ
+abbrev pub left : HashTable → Option ℕ → ℕ
 left t at = length (unwrap_or (chain t at) [])
 
-pub none_left : (t : Table) (hash : ℕ) → slice_get (matching t hash None) 0 ≡ None
+pub none_left : (t : HashTable) (hash : ℕ) → slice_get (matching t hash None) 0 ≡ None
 unfolding matching chain
 none_left t hash = rw (chain_from-none t t.symbols) refl
 
-pub hit : (t : Table) (hash index : ℕ) → IsSome (chain t (Some index)) → matches t hash index ≡ true → slice_get (matching t hash (Some index)) 0 ≡ Some index
+pub hit : (t : HashTable) (hash index : ℕ) → IsSome (chain t (Some index)) → matches t hash index ≡ true → slice_get (matching t hash (Some index)) 0 ≡ Some index
 unfolding matching
 hit t hash index h match = let o = opens t index h in rw (o.whole, match) refl
 
-pub miss : (t : Table) (hash index : ℕ) → IsSome (chain t (Some index)) → matches t hash index ≡ false → matching t hash (Some index) ≡ matching t hash (following t index)
+pub miss : (t : HashTable) (hash index : ℕ) → IsSome (chain t (Some index)) → matches t hash index ≡ false → matching t hash (Some index) ≡ matching t hash (following t index)
 unfolding matching
 miss t hash index h match = let o = opens t index h in rw (o.whole, o.more, match) refl
 
-pub still_ends : (t : Table) (index : ℕ) → IsSome (chain t (Some index)) → IsSome (chain t (following t index))
+pub still_ends : (t : HashTable) (index : ℕ) → IsSome (chain t (Some index)) → IsSome (chain t (following t index))
 still_ends t index h = let o = opens t index h in rw o.more refl
 
-pub fewer_left : (t : Table) (index : ℕ) → IsSome (chain t (Some index)) → left t (following t index) < left t (Some index)
+pub fewer_left : (t : HashTable) (index : ℕ) → IsSome (chain t (Some index)) → left t (following t index) < left t (Some index)
 fewer_left t index h = let o = opens t index h in rw (o.more, o.whole) (omega arith)
 
 -- ---- the ones after a symbol of a list
@@ -104,10 +104,10 @@ rest_after-filter p index [] passes = refl
 rest_after-filter p index (x ∷ xs) passes = rest_after-filter_by p x index xs (p x) (eqb x index) refl refl passes (rest_after-filter p index xs passes)
 
 -- after a symbol of a chain comes the chain from the following one
-abbrev pub Follows : Table → ℕ → List ℕ → Type 0
+abbrev pub Follows : HashTable → ℕ → List ℕ → Type 0
 Follows t index xs = (is_linked t index ≡ true) × (chain_from t t.symbols (following t index) ≡ Some (rest_after index xs))
 
-follows_by : (t : Table) (n first index : ℕ) (rest : List ℕ) (same : Bool) → eqb first index ≡ same → n ≤ t.symbols → is_linked t first ≡ true
+follows_by : (t : HashTable) (n first index : ℕ) (rest : List ℕ) (same : Bool) → eqb first index ≡ same → n ≤ t.symbols → is_linked t first ≡ true
     → chain_from t n (following t first) ≡ Some rest → (has index rest ≡ true → Follows t index rest) → (same || has index rest) ≡ true
     → (is_linked t index ≡ true) × (chain_from t t.symbols (following t index) ≡ Some (cond same rest (rest_after index rest)))
 follows_by t n first index rest true is_same le linked e more h =
@@ -115,7 +115,7 @@ follows_by t n first index rest true is_same le linked e more h =
     (rw k at linked, more_steps t n t.symbols (following t index) rest le (rw k at e))
 follows_by t n first index rest false is_same le linked e more h = more h
 
-pub follows : (t : Table) (n : ℕ) (start : Option ℕ) (xs : List ℕ) (index : ℕ) → n ≤ t.symbols → chain_from t n start ≡ Some xs → has index xs ≡ true → Follows t index xs
+pub follows : (t : HashTable) (n : ℕ) (start : Option ℕ) (xs : List ℕ) (index : ℕ) → n ≤ t.symbols → chain_from t n start ≡ Some xs → has index xs ≡ true → Follows t index xs
 unfolding chain_from
 follows t n None xs index le e h =
     let none : xs ≡ [] = same_Some xs [] (sym e ∙ chain_from-none t n) in
@@ -128,24 +128,24 @@ follows t (suc n) (Some first) xs index le e h =
 -- ---- the symbols of a chain
 
 -- after a symbol of the list come those from the following one
-pub record GoesOn (t : Table) (hash index : ℕ) (xs : List ℕ) : Type 0 where
+pub record GoesOn (t : HashTable) (hash index : ℕ) (xs : List ℕ) : Type 0 where
   pub linked : is_linked t index ≡ true
   pub ends : IsSome (chain t (following t index))
   pub rest : rest_after index xs ≡ matching t hash (following t index)
 
-goes_on_from : (t : Table) (hash index : ℕ) (start : Option ℕ) (xs : List ℕ) → chain t start ≡ Some xs → has index (matching t hash start) ≡ true → GoesOn t hash index (matching t hash start)
+goes_on_from : (t : HashTable) (hash index : ℕ) (start : Option ℕ) (xs : List ℕ) → chain t start ≡ Some xs → has index (matching t hash start) ≡ true → GoesOn t hash index (matching t hash start)
 unfolding matching chain
 goes_on_from t hash index start xs e h =
     let f = filter_has (matches t hash) index xs (rw e at h) in
     let g = follows t t.symbols start xs index (omega arith) e f.1 in
     record { linked = g.0; ends = rw g.1 refl; rest = rw (e, g.1) (rest_after-filter (matches t hash) index xs f.0) }
 
-goes_on_by : (t : Table) (hash index : ℕ) (start : Option ℕ) (admitted : Bool) → IsSome (chain t start) → has index (cond admitted (matching t hash start) []) ≡ true
+goes_on_by : (t : HashTable) (hash index : ℕ) (start : Option ℕ) (admitted : Bool) → IsSome (chain t start) → has index (cond admitted (matching t hash start) []) ≡ true
     → GoesOn t hash index (cond admitted (matching t hash start) [])
 goes_on_by t hash index start false ends h = absurd (false≢true h)
 goes_on_by t hash index start true ends h = let v = chain_value (chain t start) ends in goes_on_from t hash index start v.0 v.1 h
 
-pub goes_on : (t : Table) (hash index : ℕ) → IsWellFormed t → IsTrue (is_chain_symbol t hash index) → GoesOn t hash index (chain_symbols t hash)
+pub goes_on : (t : HashTable) (hash index : ℕ) → IsWellFormed t → IsTrue (is_chain_symbol t hash index) → GoesOn t hash index (chain_symbols t hash)
 unfolding chain_symbols
 goes_on t hash index formed h =
     let k = hash % bucket_count t in
@@ -154,13 +154,13 @@ goes_on t hash index formed h =
 -- ---- the symbols are distinct
 
 -- a chain from one of its symbols on is shorter than the chain
-reaches_by : (t : Table) (n first index : ℕ) (rest : List ℕ) (same : Bool) → eqb first index ≡ same → chain_from t (suc n) (Some first) ≡ Some (first ∷ rest)
+reaches_by : (t : HashTable) (n first index : ℕ) (rest : List ℕ) (same : Bool) → eqb first index ≡ same → chain_from t (suc n) (Some first) ≡ Some (first ∷ rest)
     → (has index rest ≡ true → (m : ℕ) × (ys : List ℕ) × (chain_from t m (Some index) ≡ Some (index ∷ ys)) × (length ys < length rest)) → (same || has index rest) ≡ true
     → (m : ℕ) × (ys : List ℕ) × (chain_from t m (Some index) ≡ Some (index ∷ ys)) × (length ys < length (first ∷ rest))
 reaches_by t n first index rest true is_same whole more h = let k = eqb-true first index is_same in (suc n, rest, rw k at whole, omega arith)
 reaches_by t n first index rest false is_same whole more h = let m = more h in (m.0, m.1, m.2, omega (arith, m.3))
 
-reaches : (t : Table) (n : ℕ) (start : Option ℕ) (xs : List ℕ) (index : ℕ) → chain_from t n start ≡ Some xs → has index xs ≡ true
+reaches : (t : HashTable) (n : ℕ) (start : Option ℕ) (xs : List ℕ) (index : ℕ) → chain_from t n start ≡ Some xs → has index xs ≡ true
     → (m : ℕ) × (ys : List ℕ) × (chain_from t m (Some index) ≡ Some (index ∷ ys)) × (length ys < length xs)
 reaches t n None xs index e h =
     let none : xs ≡ [] = same_Some xs [] (sym e ∙ chain_from-none t n) in
@@ -170,7 +170,7 @@ reaches t (suc n) (Some first) xs index e h =
     let o = opened t n first xs e in
     rw o.3 (reaches_by t n first index o.0 (eqb first index) refl (rw o.3 at e) (reaches t n (following t first) o.0 index o.2) (rw o.3 at h))
 
-not_again : (t : Table) (n index : ℕ) (rest : List ℕ) → chain_from t (suc n) (Some index) ≡ Some (index ∷ rest) → chain_from t n (following t index) ≡ Some rest → has index rest ≡ false
+not_again : (t : HashTable) (n index : ℕ) (rest : List ℕ) → chain_from t (suc n) (Some index) ≡ Some (index ∷ rest) → chain_from t n (following t index) ≡ Some rest → has index rest ≡ false
 not_again t n index rest whole more =
     false_from_ne_true (has index rest) (λ h.
     let r = reaches t n (following t index) rest index more h in
@@ -183,7 +183,7 @@ apart_from x (y ∷ ys) h =
     let p = or_parts (eqb y x) (has x ys) h in
     (ne_eqb x y (λ e. eqb-false y x p.0 (sym e)), apart_from x ys p.1)
 
-chain-distinct : (t : Table) (n : ℕ) (start : Option ℕ) (xs : List ℕ) → chain_from t n start ≡ Some xs → IsDistinct nat_eq xs
+chain-distinct : (t : HashTable) (n : ℕ) (start : Option ℕ) (xs : List ℕ) → chain_from t n start ≡ Some xs → IsDistinct nat_eq xs
 unfolding IsDistinct
 chain-distinct t n None xs e = let none : [] ≡ xs = same_Some [] xs (sym (chain_from-none t n) ∙ e) in subst (IsDistinct nat_eq) none tt
 chain-distinct t zero (Some first) xs e = let none = chain_from-zero t first in absurd (cc)
@@ -209,7 +209,7 @@ distinct-filter p [] h = h
 distinct-filter p (x ∷ xs) h =
     distinct-filter_by p x xs (p x) (apart-filter p x xs (IsDistinct-head nat_eq x xs h)) (distinct-filter p xs (IsDistinct-tail nat_eq x xs h))
 
-matching-distinct : (t : Table) (hash : ℕ) (start : Option ℕ) → IsSome (chain t start) → IsDistinct nat_eq (matching t hash start)
+matching-distinct : (t : HashTable) (hash : ℕ) (start : Option ℕ) → IsSome (chain t start) → IsDistinct nat_eq (matching t hash start)
 unfolding matching chain
 matching-distinct t hash start ends =
     let v = chain_value (chain_from t t.symbols start) ends in
@@ -220,13 +220,13 @@ unfolding IsDistinct
 distinct_by xs true h = h
 distinct_by xs false h = tt
 
-pub chain_symbols-distinct : (t : Table) (hash : ℕ) → IsWellFormed t → IsDistinct nat_eq (chain_symbols t hash)
+pub chain_symbols-distinct : (t : HashTable) (hash : ℕ) → IsWellFormed t → IsDistinct nat_eq (chain_symbols t hash)
 unfolding chain_symbols
 chain_symbols-distinct t hash formed =
     let k = hash % bucket_count t in
     distinct_by (matching t hash (head t k)) (admits t hash) (matching-distinct t hash (head t k) (formed.ends k (mod_below hash (bucket_count t) formed.buckets.some)))
 
-pub chain_symbol_below : (t : Table) (hash index : ℕ) → IsWellFormed t → IsTrue (is_chain_symbol t hash index) → index < t.symbols
+pub chain_symbol_below : (t : HashTable) (hash index : ℕ) → IsWellFormed t → IsTrue (is_chain_symbol t hash index) → index < t.symbols
 chain_symbol_below t hash index formed h = (IsLinked-from t index (goes_on t hash index formed h).linked).below
 
 -- ---- one symbol after the other
@@ -292,5 +292,5 @@ pub rest_from-next : (index : ℕ) (xs : List ℕ) → IsDistinct nat_eq xs → 
 rest_from-next index xs distinct = rest_from_by xs (rest_after index xs) (λ y zs e. after_next index y xs zs distinct e)
 
 -- the first from the following one on is the one after it
-pub next_is : (t : Table) (hash index : ℕ) → IsWellFormed t → IsTrue (is_chain_symbol t hash index) → slice_get (matching t hash (following t index)) 0 ≡ slice_get (rest_after index (chain_symbols t hash)) 0
+pub next_is : (t : HashTable) (hash index : ℕ) → IsWellFormed t → IsTrue (is_chain_symbol t hash index) → slice_get (matching t hash (following t index)) 0 ≡ slice_get (rest_after index (chain_symbols t hash)) 0
 next_is t hash index formed given = ap (λ (xs : List ℕ). slice_get xs 0) (sym (goes_on t hash index formed given).rest)

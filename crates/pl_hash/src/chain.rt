@@ -15,7 +15,7 @@ pub fn has_buckets(table: &Table) -> bool
     ensures value { result ≡ spec.has_buckets table.now }
     ensures facts { OnTrue result (spec.HasBuckets table.now) }
 {
-    bucket_count(table) > 0 && chains_at(table) <= table.words.len()
+    bucket_count(table) > 0 && chains_at(table) <= table.size()
 }
 
 /// The first symbol of a bucket's chain.
@@ -37,8 +37,8 @@ pub fn is_linked(table: &Table, index: u32) -> bool
     ensures facts { OnTrue result (spec.IsLinked table.now index) }
 {
     first_linked(table) <= index
-        && index < table.symbols
-        && link_at(table, index) + WORD_SIZE <= table.words.len()
+        && index < table.symbols()
+        && link_at(table, index) + WORD_SIZE <= table.size()
 }
 
 /// The symbol after one in its chain.
@@ -48,8 +48,10 @@ pub fn following(table: &Table, index: u32) -> Option<u32>
     requires linked { spec.IsLinked table.now index }
     ensures { result ≡ spec.following table.now index }
 {
+    // The count of symbols has 32 bits, so the index after one of a symbol has too.
+    let _count = table.symbols();
     let link = link(table, index);
-    if table.gnu {
+    if table.is_gnu() {
         if link % 2 == 1 { None } else { Some(index + 1) }
     } else if link == 0 {
         None
@@ -65,7 +67,7 @@ pub fn chain_ends(table: &Table, start: Option<u32>) -> bool
     ensures { result ≡ is_some (spec.chain table.now start) }
 {
     let mut at = start;
-    for _ in 0..table.symbols {
+    for _ in 0..table.symbols() {
         let Some(index) = at else {
             return true;
         };

@@ -21,10 +21,10 @@ pub struct Query {
     pub left: u32,
 }
 
-#[tactic(auto, unfolding(crate::specs::Jumps::next))]
-fn next(table: &Table, index: u32) -> Option<u32>
+#[tactic(auto, unfolding(crate::specs::Jumps::next_in_chain))]
+fn next_in_chain(table: &Table, index: u32) -> Option<u32>
     requires { HasHeader table.now }
-    ensures { result ≡ spec.next table.now index }
+    ensures { result ≡ spec.next_in_chain table.now index }
 {
     if is_linked(table, index) {
         following(table, index)
@@ -36,11 +36,11 @@ fn next(table: &Table, index: u32) -> Option<u32>
 /// The jumps of one step.
 fn steps(alloc: Global, table: &Table) -> Result<Vec<Option<u32>>, AllocError>
     requires { HasHeader table.now }
-    ensures { IfOk result (λ v. v.items ≡ map (spec.next table.now)
+    ensures { IfOk result (λ v. v.items ≡ map (spec.next_in_chain table.now)
         (range_with_len 0 table.now.symbols)) }
 {
-    (0..table.symbols)
-        .map(|index| next(table, index))
+    (0..table.symbols())
+        .map(|index| next_in_chain(table, index))
         .collect(alloc)
 }
 
@@ -199,7 +199,7 @@ fn all_lengths(alloc: Global, table: &Table) -> Result<Vec<u32>, AllocError>
     requires { IsWellFormed table.now }
     ensures { IfOk result (λ v. HasLengths table.now v.items) }
 {
-    let mut lengths = Vec::from_elem(alloc, 0, table.symbols as usize)?;
+    let mut lengths = Vec::from_elem(alloc, 0, table.symbols() as usize)?;
     let _ends = note_all(table, &mut lengths);
     Ok(lengths)
 }

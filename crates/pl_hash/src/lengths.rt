@@ -24,7 +24,7 @@ fn sum_of(table: &Table, passed: u32, known: u32) -> Option<u32>
     requires { passed ≤ table.now.symbols }
     ensures { result ≡ spec.sum_of table.now passed known }
 {
-    if known <= table.symbols - passed {
+    if known <= table.symbols() - passed {
         Some(passed + known)
     } else {
         None
@@ -38,7 +38,7 @@ fn chain_length(table: &Table, lengths: &[u32], start: Option<u32>) -> Option<u3
     ensures { spec.IsLength table.now start result }
 {
     let mut at = start;
-    for passed in 0..table.symbols {
+    for passed in 0..table.symbols() {
         let Some(index) = at else {
             return Some(passed);
         };
@@ -54,7 +54,7 @@ fn chain_length(table: &Table, lengths: &[u32], start: Option<u32>) -> Option<u3
     if at.is_some() {
         return None;
     }
-    Some(table.symbols)
+    Some(table.symbols())
 }
 
 /// Notes the lengths of the chain of so many symbols from one on.

@@ -34,7 +34,7 @@ pub fn admits(table: &Table, hash: u32) -> bool
     requires formed { IsWellFormed table.now }
     ensures { result ≡ part.admits table.now hash }
 {
-    if !table.gnu {
+    if !table.is_gnu() {
         return true;
     }
     let word = bloom_word(table, hash);
@@ -48,7 +48,7 @@ pub fn matches(table: &Table, hash: u32, index: u32) -> bool
     requires linked { IsLinked table.now index }
     ensures { result ≡ part.matches table.now hash index }
 {
-    !table.gnu || link(table, index) / 2 == hash / 2
+    !table.is_gnu() || link(table, index) / 2 == hash / 2
 }
 
 /// The first symbol that may have a hash, from one on in its chain.
@@ -108,7 +108,7 @@ pub fn next(table: &Table, hash: u32, index: u32) -> Option<u32>
 pub fn name_hash(table: &Table, name: &[u8]) -> u32
     ensures { result ≡ spec.name_hash table.now name.now }
 {
-    if table.gnu {
+    if table.is_gnu() {
         gnu_hash(name)
     } else {
         sysv_hash(name)

@@ -15,10 +15,10 @@ fn is_counted(table: &Table) -> bool
     requires { HasHeader table.now }
     ensures { result ≡ spec.is_counted table.now }
 {
-    if table.gnu {
+    if table.is_gnu() {
         bloom_size(table).is_power_of_two()
     } else {
-        chain_count(table) == table.symbols
+        chain_count(table) == table.symbols()
     }
 }
 
@@ -37,7 +37,7 @@ fn has_links(table: &Table) -> bool
     requires { spec.HasBuckets table.now }
     ensures { result ≡ spec.has_links table.now }
 {
-    table.gnu && has_empty_buckets(table) || link_at(table, table.symbols) <= table.words.len()
+    table.is_gnu() && has_empty_buckets(table) || link_at(table, table.symbols()) <= table.size()
 }
 
 /// Whether each chain stays among the linked symbols, and ends.
@@ -71,7 +71,7 @@ fn all_end(alloc: Global, table: &Table) -> Result<bool, AllocError>
     requires { spec.HasBuckets table.now }
     ensures { IfOk result (λ b. b ≡ spec.chains_end table.now) }
 {
-    let mut lengths = Vec::from_elem(alloc, 0, table.symbols as usize)?;
+    let mut lengths = Vec::from_elem(alloc, 0, table.symbols() as usize)?;
     Ok(note_all(table, &mut lengths))
 }
 

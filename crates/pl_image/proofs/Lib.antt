@@ -9,3 +9,5 @@ pub mod TouchLemmas
 pub mod ByteLemmas
 pub mod PlainLemmas
 pub mod TextLemmas
+pub mod LoadedLaws
+pub mod PatchedLemmas

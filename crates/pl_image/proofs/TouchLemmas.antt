@@ -14,7 +14,7 @@ use Rattle.std.proofs.Math.Bool.{or-true}
 use Rattle.std.proofs.lemmas.List.Folds.{list_any_at, list_any_none, Any-from_list_any}
 use Rattle.pl_base.specs.Memory.{Fill, covers}
 use Rattle.pl_image.specs.declared.touched.Touch.{Touch}
-use Rattle.pl_image.specs.Index.{laid, laid_by, laid_up_to, patch_of, is_of_patch, is_touched, words_end, IsIndex, IsIndexOf, IsIndexTo, AreTouching}
+use Rattle.pl_image.specs.Index.{laid, laid_by, laid_up_to, patch_of, is_of_patch, is_touched, words_end, IsIndex, IsIndexOf, IsIndexTo, AreTouching, AreNear}
 
 -- ---- an index that is made
 
@@ -131,9 +131,10 @@ fold_idle f (x ∷ xs) b idle =
     let one : f b x ≡ b = idle b 0 x (omega arith) in
     ap (λ c. fold f c xs) one ∙ fold_idle f xs b (λ c k d lt. idle c (suc k) d (omega arith))
 
-module _ (patches : List Fill) (ts : List Touch) (n i j : ℕ) (h : IsIndex patches ts)
+-- the touches of the words from one number up to another
+module _ (patches : List Fill) (ts : List Touch) (n m i j : ℕ) (h : IsIndex patches ts) (rises : n ≤ m)
     (first : IsPartitionPoint (λ t. nat_lt t.number n ≡ true) (λ t. nat_lt t.number n ≡ false) ts i)
-    (last : IsPartitionPoint (λ t. nat_lt t.number (n + 1) ≡ true) (λ t. nat_lt t.number (n + 1) ≡ false) ts j)
+    (last : IsPartitionPoint (λ t. nat_lt t.number m ≡ true) (λ t. nat_lt t.number m ≡ false) ts j)
     (i_within : i ≤ length ts) (j_within : j ≤ length ts) where
   pub in_order : i ≤ j
   in_order = elim (cases_lt j i) [
@@ -150,29 +151,46 @@ module _ (patches : List Fill) (ts : List Touch) (n i j : ℕ) (h : IsIndex patc
       sym (take-append-drop i ts)
       ∙ ap (λ (xs : List Touch). take i ts ++ xs) (sym (take-append-drop (j - i) (drop i ts)) ∙ ap (λ (xs : List Touch). take (j - i) (drop i ts) ++ xs) (drop-drop (j - i) i ts ∙ ap (λ (k : ℕ). drop k ts) there))
 
-  pub are_touching : AreTouching patches (take (j - i) (drop i ts)) n
-  are_touching = record {
-    inside = All-take (λ (t : Touch). t.patch < length patches) (j - i) (drop i ts) (All-drop (λ (t : Touch). t.patch < length patches) i ts h.inside);
-    whole = λ a found word.
-        let f = laid_by patches a in
-        let mid = take (j - i) (drop i ts) in
-        let front : fold f found (take i ts) ≡ found = fold_idle f (take i ts) found (λ c k d lt.
-        let less : k < i = omega (arith, lt, length-take i ts) in
-        let below = first.0 k d (omega arith) less in
-        let there = get_or-take i ts k d less in
-        idle_by patches a c (get_or (take i ts) k d) (rw there (let out : ((get_or ts k d).number == a / 8) ≡ false = grind (arith, nat_tests) in out))) in
-        let back : fold f (fold f found mid) (drop j ts) ≡ fold f found mid = fold_idle f (drop j ts) (fold f found mid) (λ c k d lt.
-        let within : j + k < length ts = omega (arith, lt, length-drop j ts) in
-        let above = last.1 (j + k) d (omega arith) within in
-        let there = get_or-drop j ts k d in
-        idle_by patches a c (get_or (drop j ts) k d) (rw there (let out : ((get_or ts (j + k) d).number == a / 8) ≡ false = grind (arith, nat_tests) in out))) in
-        sym back
-        ∙ sym (fold-append f found mid (drop j ts))
-        ∙ ap (λ (x : ℕ). fold f x (mid ++ drop j ts)) (sym front)
-        ∙ sym (fold-append f found (take i ts) (mid ++ drop j ts))
-        ∙ ap (fold f found) (sym split)
-        ∙ h.whole a found;
-  }
+  pub all_inside : All (λ t. t.patch < length patches) (take (j - i) (drop i ts))
+  all_inside = All-take (λ (t : Touch). t.patch < length patches) (j - i) (drop i ts) (All-drop (λ (t : Touch). t.patch < length patches) i ts h.inside)
+
+  pub whole_between : (a found : ℕ) → n ≤ a / 8 → a / 8 < m → fold (laid_by patches a) found (take (j - i) (drop i ts)) ≡ fold (laid a) found patches
+  whole_between a found low high =
+      let f = laid_by patches a in
+      let mid = take (j - i) (drop i ts) in
+      let front : fold f found (take i ts) ≡ found = fold_idle f (take i ts) found (λ c k d lt.
+      let less : k < i = omega (arith, lt, length-take i ts) in
+      let below = first.0 k d (omega arith) less in
+      let there = get_or-take i ts k d less in
+      idle_by patches a c (get_or (take i ts) k d) (rw there (let out : ((get_or ts k d).number == a / 8) ≡ false = grind (arith, nat_tests) in out))) in
+      let back : fold f (fold f found mid) (drop j ts) ≡ fold f found mid = fold_idle f (drop j ts) (fold f found mid) (λ c k d lt.
+      let within : j + k < length ts = omega (arith, lt, length-drop j ts) in
+      let above = last.1 (j + k) d (omega arith) within in
+      let there = get_or-drop j ts k d in
+      idle_by patches a c (get_or (drop j ts) k d) (rw there (let out : ((get_or ts (j + k) d).number == a / 8) ≡ false = grind (arith, nat_tests) in out))) in
+      sym back
+      ∙ sym (fold-append f found mid (drop j ts))
+      ∙ ap (λ (x : ℕ). fold f x (mid ++ drop j ts)) (sym front)
+      ∙ sym (fold-append f found (take i ts) (mid ++ drop j ts))
+      ∙ ap (fold f found) (sym split)
+      ∙ h.whole a found
+
+pub are_touching : (patches : List Fill) (ts : List Touch) (n i j : ℕ) → IsIndex patches ts → IsPartitionPoint (λ t. nat_lt t.number n ≡ true) (λ t. nat_lt t.number n ≡ false) ts i
+    → IsPartitionPoint (λ t. nat_lt t.number (n + 1) ≡ true) (λ t. nat_lt t.number (n + 1) ≡ false) ts j → i ≤ length ts → j ≤ length ts → AreTouching patches (take (j - i) (drop i ts)) n
+are_touching patches ts n i j h first last i_within j_within = record {
+  inside = all_inside patches ts n (n + 1) i j h (omega arith) first last i_within j_within;
+  whole = λ a found word. whole_between patches ts n (n + 1) i j h (omega arith) first last i_within j_within a found (omega arith) (omega arith);
+}
+
+-- the touches of the words of so many bytes
+pub are_near : (patches : List Fill) (ts : List Touch) (from size last i j : ℕ) → IsIndex patches ts → last ≡ (from + size + 7) / 8
+    → IsPartitionPoint (λ t. nat_lt t.number (from / 8) ≡ true) (λ t. nat_lt t.number (from / 8) ≡ false) ts i
+    → IsPartitionPoint (λ t. nat_lt t.number last ≡ true) (λ t. nat_lt t.number last ≡ false) ts j → i ≤ length ts → j ≤ length ts → AreNear patches (take (j - i) (drop i ts)) from size
+are_near patches ts from size m i j h is first last i_within j_within =
+    let rises : from / 8 ≤ m = omega arith in record {
+      inside = all_inside patches ts (from / 8) m i j h rises first last i_within j_within;
+      whole = λ a found low high. whole_between patches ts (from / 8) m i j h rises first last i_within j_within a found (omega arith) (omega arith);
+    }
 
 pub only_touching : (ts : List Touch) (n i j : ℕ) → IsPartitionPoint (λ t. nat_lt t.number n ≡ true) (λ t. nat_lt t.number n ≡ false) ts i
     → IsPartitionPoint (λ t. nat_lt t.number (n + 1) ≡ true) (λ t. nat_lt t.number (n + 1) ≡ false) ts j

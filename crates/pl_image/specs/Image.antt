@@ -27,6 +27,10 @@ any_masked objects address = list_any (λ o. is_masked o.mask address) objects
 unfoldable pub byte_of : Image → Memory
 byte_of i = let memory = layered (all_pieces i.objects) in shown memory (any_masked i.objects) (filled memory i.patches)
 
+-- what the objects load, with the patches over it; nothing is masked
+abbrev pub patched : Image → Memory
+patched i = filled (layered (all_pieces i.objects)) i.patches
+
 -- ---- text
 
 abbrev pub extent_of : Piece → Range

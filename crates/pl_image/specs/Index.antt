@@ -1,5 +1,5 @@
 -- How patches and masked addresses are looked up.
-use Rattle.std.specs.Prelude.{◌≡◌, ℕ, ◌+◌, ◌/◌, ◌<◌, max, take, Bool, true, ◌&&◌, ◌==◌, nat_le, nat_lt, List, [], ◌∷◌, length, fold, slice_index_or, if◌then◌else◌}
+use Rattle.std.specs.Prelude.{◌≡◌, ℕ, ◌+◌, ◌/◌, ◌<◌, ◌≤◌, max, take, Bool, true, ◌&&◌, ◌==◌, nat_le, nat_lt, List, [], ◌∷◌, length, fold, slice_index, slice_index_or, if◌then◌else◌}
 use Rattle.std.specs.List.{list_any, All}
 use Rattle.std.specs.List.Sorted.{IsNonDecreasingBy}
 use Rattle.pl_base.specs.Memory.{Fill, covers, fill_byte}
@@ -64,6 +64,26 @@ pub record IsIndexTo (patches : List Fill) (touched : List Touch) (index number 
 pub record AreTouching (patches : List Fill) (touching : List Touch) (number : ℕ) : Type 0 where
   pub inside : All (λ t. t.patch < length patches) touching
   pub whole : (address found : ℕ) → address / 8 ≡ number → fold (laid_by patches address) found touching ≡ fold (laid address) found patches
+
+-- the patches that touch a word of so many bytes from an address on
+pub record AreNear (patches : List Fill) (near : List Touch) (from size : ℕ) : Type 0 where
+  pub inside : All (λ t. t.patch < length patches) near
+  pub whole : (address found : ℕ) → from ≤ address → address < from + size → fold (laid_by patches address) found near ≡ fold (laid address) found patches
+
+-- ---- bytes from an address on
+
+-- each of some bytes becomes what a rule makes of its address and of the byte before
+abbrev pub AreLaid : (ℕ → ℕ → ℕ) → ℕ → List ℕ → List ℕ → Type 0
+AreLaid lay from before after = (length after ≡ length before) × ((k : ℕ) → k < length before → slice_index after k ≡ lay (from + k) (slice_index before k))
+
+-- the byte at an address with a patch over it, if the address's word is the one of a number
+abbrev pub laid_in : Fill → ℕ → ℕ → ℕ → ℕ
+laid_in fill number address found = if number == address / 8 then laid address found fill else found
+
+-- objects and patches over what they load, with the words that the patches touch
+pub record IsPatched (objects : List LoadedObject) (patches : List Fill) (touched : List Touch) : Type 0 where
+  pub loaded : AreLoaded objects
+  pub index : IsIndex patches touched
 
 -- ---- masked addresses
 

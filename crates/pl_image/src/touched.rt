@@ -86,6 +86,16 @@ pub fn touching<'t>(patches: &[Patch], touched: &'t [Touch], number: u64) -> &'t
     &touched[first..end]
 }
 
+/// The patches that touch a word of so many bytes from an address on.
+pub fn near<'t>(patches: &[Patch], touched: &'t [Touch], from: u64, size: u64) -> &'t [Touch]
+    requires { spec.IsIndex patches.now touched.now }
+    ensures { spec.AreNear patches.now result.now from size }
+{
+    let first = before(touched, from / 8);
+    let end = before(touched, ((end(from, size) + 7) / 8) as u64);
+    &touched[first..end]
+}
+
 /// The byte at an address with the patches over it, of which those that touch its word are given.
 pub fn patched(patches: &[Patch], touching: &[Touch], below: u8, address: u64) -> u8
     requires inside { All (λ t. t.patch < length patches.now) touching.now }

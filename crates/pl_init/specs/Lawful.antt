@@ -18,13 +18,14 @@ pub record IsLawful (walked : Walked) (order : List ℕ) : Type 0 where
   pub members : AreMembers walked order
   pub all : (m : ℕ) → m < length walked → has_number order m ≡ true
   pub once : (front back : List ℕ) (m : ℕ) → order ≡ front ++ m ∷ back → has_number front m ≢ true
+  -- (`Precedes` of Leads: what a member reaches by needed names; of two that reach each other the earlier in the walk)
   pub behind : (front back : List ℕ) (m k : ℕ) → order ≡ front ++ m ∷ back → Precedes walked k m → has_number front k ≡ true
 
 -- all that have to come before a member stand
 abbrev pub IsReady : Walked → List ℕ → ℕ → Type 0
 IsReady walked front m = (k : ℕ) → Precedes walked k m → has_number front k ≡ true
 
--- each member of an order is ready there, and no earlier one of the walk that does not stand yet is
+-- at each step of an order the earliest member of the walk that does not stand yet and is ready
 pub record IsPrinted (walked : Walked) (order : List ℕ) : Type 0 where
   pub ready : (front back : List ℕ) (m : ℕ) → order ≡ front ++ m ∷ back → IsReady walked front m
   pub earliest : (front back : List ℕ) (m k : ℕ) → order ≡ front ++ m ∷ back → k < m → has_number front k ≢ true → IsReady walked front k → ⊥

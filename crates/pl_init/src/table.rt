@@ -1,5 +1,5 @@
 // Which member reaches which, by a table.
-ghost use Rattle.std.specs.Prelude.{◌≡◌, ◌<◌, ◌≤◌, ◌*◌, ◌+◌, List, length, true};
+ghost use Rattle.std.specs.Prelude.{◌≡◌, ◌<◌, ◌≤◌, ◌*◌, ◌+◌, [], List, length, true};
 ghost use Rattle.std.specs.List.{list_all};
 ghost use Rattle.pl_init.specs.Flags.{IsTable};
 ghost use Rattle.pl_init.specs.Right.{is_numbered};
@@ -17,9 +17,10 @@ pub struct Table<'a> {
     /// The rows.
     pub rows: &'a [ReachRow],
 
-    cells: [bool; PAIRS],
+    /// The flags, lent, so that no table of them stands on the stack.
+    cells: &'a [bool],
 
-    pub ghost tells: { IsTable cells rows.now },
+    pub ghost tells: { IsTable cells.now rows.now },
 }
 
 fn cell(from: u32, to: u32) -> usize
@@ -31,31 +32,25 @@ fn cell(from: u32, to: u32) -> usize
     from as usize * MAX_MEMBERS + to as usize
 }
 
-/// The flags of rows.
-#[tactic(auto, using(crate::proofs::TableLaws::no_cells))]
-fn cells_of(count: usize, rows: &[ReachRow]) -> [bool; PAIRS]
+/// Flags the pairs of which a row leads from the first to the second, where no pair is flagged yet.
+pub fn flag_pairs(count: usize, rows: &[ReachRow], cells: &mut [bool])
     requires few { count ≤ MAX_MEMBERS }
     requires numbered { list_all (is_numbered count) rows.now ≡ true }
-    ensures { IsTable result rows.now }
+    requires none { IsTable cells.old [] }
+    ensures { IsTable cells.new rows.now }
 {
-    let mut cells = [false; PAIRS];
     for row in rows {
         cells[cell(row.from, row.to)] = true;
     }
-    cells
 }
 
 impl<'a> Table<'a> {
-    /// The table of rows, whose numbers are below a count.
-    pub fn of(count: usize, rows: &'a [ReachRow]) -> Table<'a>
-        requires few { count ≤ MAX_MEMBERS }
-        requires numbered { list_all (is_numbered count) rows.now ≡ true }
+    /// The table of rows, by their flags.
+    pub fn of(rows: &'a [ReachRow], cells: &'a [bool]) -> Table<'a>
+        requires { IsTable cells.now rows.now }
         ensures { result.rows.now ≡ rows.now }
     {
-        Table {
-            rows,
-            cells: cells_of(count, rows),
-        }
+        Table { rows, cells }
     }
 
     /// Whether one member has to come before another.

@@ -4,7 +4,7 @@ use Rattle.std.specs.FinMap.{contains_key, get}
 use Rattle.pl_base.specs.Files.{Files}
 use Rattle.pl_folder.specs.Calls.{Calls, IsThere}
 use Rattle.pl_folder.specs.Disk.{Name, View, State, Disk, after, read, same}
-use Rattle.pl_folder.specs.Effects.{Does, DoesOrNot, Effect, SameFiles, StepsDisk, StepsDiskOrNot, StepsFiles, firms, removes, renamed, renames, settles}
+use Rattle.pl_folder.specs.Effects.{Does, DoesOrNot, Effect, SameFiles, StepsDisk, StepsDiskOrNot, StepsFiles, firms, removes, files_after_rename, renames, settles}
 use Rattle.pl_folder.specs.Seen.{Seen, Ending, Done, Broken, Undone}
 use Rattle.pl_folder.specs.Since.{Keeps}
 use Rattle.pl_folder.specs.States as state
@@ -41,8 +41,8 @@ module _ (from to : List ℕ) where
   pub names_stop : {a b : Seen} → Calls Broken (DoesOrNot (firms from)) a b → Calls Broken (NamesFile from to) a b
   names_stop call = makes_told refl call (λ told files. inl files) (λ told disk. inl disk)
 
-  named_files : (e : Ending) (x y z : Files) → y ≡ x → StepsFiles (λ files. renamed files from to) e y z → StepsFiles (λ files. renamed files from to) e x z
-  named_files e x y z one two = subst (λ (f : Files). StepsFiles (λ files. renamed files from to) e f z) one two
+  named_files : (e : Ending) (x y z : Files) → y ≡ x → StepsFiles (λ files. files_after_rename files from to) e y z → StepsFiles (λ files. files_after_rename files from to) e x z
+  named_files e x y z one two = subst (λ (f : Files). StepsFiles (λ files. files_after_rename files from to) e f z) one two
 
   named_disk : (e : Ending) (x y z : Disk) → y ≡ is_firm from x → StepsDisk (state.renamed from to) e y z → Rattle.pl_journal.specs.Parts.NamesDisk from to e x z
   named_disk e x y z one two = by_ending e (subst (λ d. StepsDisk (state.renamed from to) e d z) one two)
@@ -77,8 +77,8 @@ read_steps f step Broken x y does (inr is) = inr (λ n. same_view is n ∙ does 
 read_steps f step Undone x y does is = tt
 
 -- a named file, by the files
-named_view : (e : Ending) (from to : List ℕ) (x y : Files) → contains_key x from ≡ true → StepsFiles (λ files. renamed files from to) e x y → ReadsOrNot (shifted from to) e x y
-named_view e from to x y there named = read_steps (shifted from to) (λ files. renamed files from to) e x y (get_renamed x from to there) named
+named_view : (e : Ending) (from to : List ℕ) (x y : Files) → contains_key x from ≡ true → StepsFiles (λ files. files_after_rename files from to) e x y → ReadsOrNot (shifted from to) e x y
+named_view e from to x y there named = read_steps (shifted from to) (λ files. files_after_rename files from to) e x y (get_renamed x from to there) named
 
 -- a file that goes
 pub removed_view : (e : Ending) (name : List ℕ) (x y : Files) → StepsFiles (λ files. Rattle.std.specs.FinMap.remove files name) e x y → ReadsOrNot (λ v n. cond (same n name) None (v n)) e x y

@@ -7,7 +7,7 @@ use Rattle.std.specs.Cmp.Lexicographic.{nat_list_cmp_total}
 use Rattle.pl_base.specs.Files.{Files}
 use Rattle.pl_base.proofs.FilesLaws.{get-inserted, insert-inserted}
 use Rattle.pl_folder.specs.Disk.{Name, View, same, read}
-use Rattle.pl_folder.specs.Effects.{appended, bytes_at, created, renamed}
+use Rattle.pl_folder.specs.Effects.{files_after_append, bytes_at, files_after_create, files_after_rename}
 use Rattle.pl_folder.specs.Seen.{Seen, IsFolder}
 use Rattle.pl_journal.specs.Lists.{IsListOf, texts}
 use Rattle.pl_journal.specs.Meaning.{Same}
@@ -18,7 +18,7 @@ pub one_view : (v w : View) → Same v w → v ≡ w
 one_view v w is = λ i n. is n i
 
 -- a file that is written whole
-pub get_written : (files : Files) (name bytes : List ℕ) → Same (get (appended (created files name) name bytes)) (with_bytes name bytes (get files))
+pub get_written : (files : Files) (name bytes : List ℕ) → Same (get (files_after_append (files_after_create files name) name bytes)) (with_bytes name bytes (get files))
 get_written files name bytes n =
     ap (λ (o : Option (List ℕ)). get (insert (insert files name []) name (unwrap_or o [] ++ bytes)) n) (get-inserted files name [])
     ∙ ap (λ (f : Files). get f n) (insert-inserted files name [] bytes)
@@ -29,7 +29,7 @@ some_bytes None is = let no : ⊥ = cc in absurd no
 some_bytes (Some bytes) is = refl
 
 -- a file that is there, under another name
-pub get_renamed : (files : Files) (from to : List ℕ) → contains_key files from ≡ true → Same (get (renamed files from to)) (shifted from to (get files))
+pub get_renamed : (files : Files) (from to : List ℕ) → contains_key files from ≡ true → Same (get (files_after_rename files from to)) (shifted from to (get files))
 get_renamed files from to there n =
     get-insert nat_list_cmp_total (remove files from) to (bytes_at files from) n
     ∙ ap (λ (o : Option (List ℕ)). cond (same n to) o (get (remove files from) n)) (some_bytes (get files from) there)

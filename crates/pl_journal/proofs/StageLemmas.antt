@@ -7,7 +7,7 @@ use Rattle.pl_base.specs.Files.{Files}
 use Rattle.pl_base.proofs.FilesLaws.{get-inserted}
 use Rattle.pl_folder.specs.Calls.{Calls}
 use Rattle.pl_folder.specs.Disk.{View, Disk, read, same}
-use Rattle.pl_folder.specs.Effects.{Appends, Does, DoesOrNot, Effect, GrowsDisk, GrowsFiles, StepsFiles, appended, bytes_at, created, creates, firms}
+use Rattle.pl_folder.specs.Effects.{Appends, Does, DoesOrNot, Effect, GrowsDisk, GrowsFiles, StepsFiles, files_after_append, bytes_at, files_after_create, creates, firms}
 use Rattle.pl_folder.specs.Seen.{Seen, Ending, Done, Broken, Undone}
 use Rattle.pl_folder.specs.Since.{Keeps}
 use Rattle.pl_journal.specs.Meaning.{Edit, Same, rows_for}
@@ -51,7 +51,7 @@ module _ (name bytes : List ℕ) (own : is_journal_name name ≡ true) (other : 
     get-insert nat_list_cmp_total files name some journal ∙ cond-false (same journal name) _ _ other,
   )
 
-  created_writes : (e : Ending) (x y : Files) → StepsFiles (λ files. created files name) e x y → WritesOwn x y
+  created_writes : (e : Ending) (x y : Files) → StepsFiles (λ files. files_after_create files name) e x y → WritesOwn x y
   created_writes Done x y is = writes_is x (sym is) (insert_writes x [])
   created_writes Broken x y (inl is) = writes_is x (sym is) (writes_nothing x)
   created_writes Broken x y (inr is) = writes_is x (sym is) (insert_writes x [])
@@ -69,7 +69,7 @@ module _ (name bytes : List ℕ) (own : is_journal_name name ≡ true) (other : 
   wrote {e = e} {a = a} {b = b} {c = c} first second = then_told first second
       (λ told one two. (
         when_done e (λ is n.
-            let grown : c.files ≡ appended (created a.files name) name bytes = subst (λ f. GrowsFiles name bytes f b.files c.files) is two ∙ ap (λ (f : Files). appended f name bytes) one in
+            let grown : c.files ≡ files_after_append (files_after_create a.files name) name bytes = subst (λ f. GrowsFiles name bytes f b.files c.files) is two ∙ ap (λ (f : Files). files_after_append f name bytes) one in
             ap (λ (f : Files). get f n) grown ∙ get_written a.files name bytes n),
         writes_then a.files b.files c.files (created_writes Done a.files b.files one) (grown_writes e b.files c.files two),
       ))

@@ -37,6 +37,7 @@ RunStands P = (before : View) (edits : List Edit) → HasNoOwn before → are_ro
 abbrev pub CommitStands : Type 0
 CommitStands = RunStands (λ before edits v. Committing before (all_staged edits (journal_of edits) before) (rows_for edits) v)
 
+-- of the rows: what a crash between two renames leaves (`Midway`)
 abbrev pub RowsStand : Type 0
 RowsStand = RunStands (λ before edits v. Midway (committed edits before) (rows_for edits) v)
 

@@ -4,7 +4,7 @@ use Rattle.std.specs.FinMap.{get}
 use Rattle.pl_base.specs.Files.{Files}
 use Rattle.pl_folder.specs.Calls.{Calls, IsThere}
 use Rattle.pl_folder.specs.Disk.{Name, View, State, Disk, IsWhole, after, read, same}
-use Rattle.pl_folder.specs.Effects.{Effect, SameFiles, StepsDisk, StepsDiskOrNot, StepsFiles, renamed}
+use Rattle.pl_folder.specs.Effects.{Effect, SameFiles, StepsDisk, StepsDiskOrNot, StepsFiles, files_after_rename}
 use Rattle.pl_folder.specs.Seen.{Ending, Done, Broken, Undone, Seen}
 use Rattle.pl_folder.specs.Since.{Keeps, Within}
 use Rattle.pl_folder.specs.States as state
@@ -52,7 +52,7 @@ Goes A P B e old new = A old.now → Keeps old new P × AtDone e (B new.now)
 -- ---- a file that is made firm and gets another name: `firm`, `rename`
 
 abbrev pub NamesFiles : Name → Name → Ending → Files → Files → Type 0
-NamesFiles from to e old new = StepsFiles (λ files. renamed files from to) e old new
+NamesFiles from to e old new = StepsFiles (λ files. files_after_rename files from to) e old new
 
 abbrev pub is_firm : Name → Disk → Disk
 is_firm name d = after (state.firmed name d.now) d

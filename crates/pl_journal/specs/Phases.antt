@@ -34,7 +34,7 @@ all_staged edits bytes v = with_bytes journal_new bytes (staged 0 edits v)
 abbrev pub shifted : Name → Name → View → View
 shifted from to v n = cond (same n to) (v from) (cond (same n from) None (v n))
 
--- some of the rows are done
+-- w is what a crash between two rows, each a rename or a removal, may leave of v: any of them done, the others not
 pub record Midway (v : View) (rows : List Row) (w : View) : Type 0 where
   pub keep : ℕ → Bool
   pub done : Same w (done_from 0 rows keep v)

@@ -49,6 +49,8 @@ pub(crate) fn do_step<D: Folder>(held: &mut Held<D>, step: &Step) -> Result<(), 
 /// Does the rows of a journal one after the other. It takes no memory.
 pub(crate) fn do_rows<D: Folder>(held: &mut Held<D>, steps: &[Step]) -> Result<(), Failed>
     requires { CanDo (D.seen held.old.folder) steps.now }
+    // Each image on the way is the folder with any of the rows done (`Midway`),
+    // also where a call fails.
     ensures calls { Calls (ends result) (DoesRows steps.now) (D.seen held.old.folder)
         (D.seen held.new.folder) }
     ensures real { StaysFirm D.seen held.old held.new }

@@ -16,13 +16,20 @@ pub fn after_the_start()
     ensures run { (before : View) (edits : List Edit) → AfterTheStart (StandsBetween before edits) }
 {}
 
-/// What a crash of staging leaves stands for the files before, and what one of the commit, the rows and the end leaves for these or for those after. Each step does its row, and with the end the changes are made.
+/// What a crash of each part of a run leaves.
 pub fn each_part_stands()
+    // Of staging: it stands for the files before.
     ensures staging { StagingStands }
+    // Of the commit: it stands for these or for those after.
     ensures commit { CommitStands }
+    // Each step does its row.
     ensures steps { StepsDoRows }
+    // Between two rows (`Midway`): recovered it is the files before or those after,
+    // as in every part from the commit on.
     ensures rows { RowsStand }
+    // Of the end: it stands for the files before or for those after.
     ensures finish { FinishStands }
+    // With the end the changes are made.
     ensures end { RunsEnd }
 {}
 

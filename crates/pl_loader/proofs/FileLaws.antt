@@ -16,7 +16,7 @@ use Rattle.pl_scope.proofs.MemberLaws.{length_walked}
 use Rattle.pl_value.specs.Ordinary.{ArePlaced}
 use Rattle.pl_loader.specs.Loading.{objects_of, parts_of, IsRead, AreFiles}
 use Rattle.pl_loader.specs.Walk.{member}
-use Rattle.pl_loader.specs.Places.{everywhere, kept_free, taken, taken_first, want_of, IsAt, IsFree}
+use Rattle.pl_loader.specs.Places.{everywhere, kept_free, program_ranges, taken_first, want_of, IsAt, IsFree}
 use Rattle.pl_loader.specs.declared.object_file.ObjectFile.{ObjectFile}
 use Rattle.pl_loader.proofs.SpanLaws.{spanned}
 use Rattle.pl_loader.proofs.ApartLaws.{IsSpannedFile, HasSpan, linked_at, all_at, are_placed}
@@ -83,7 +83,7 @@ in_places busy program fs starts are is =
     let size : length fs ≡ length starts = omega (arith, length-map fs want_of, is.one_each) in
     let first = program_spanned program fs are in
     let rest = libraries_spanned program fs are in
-    let free = lesser everywhere (linked_at program) (taken program) (map want_of fs) starts (program_takes program (All-head IsRead program fs are.read) are.program) (fewer everywhere (taken program) (kept_free busy) (map want_of fs) starts is.free) in
+    let free = lesser everywhere (linked_at program) (program_ranges program) (map want_of fs) starts (program_takes program (All-head IsRead program fs are.read) are.program) (fewer everywhere (program_ranges program) (kept_free busy) (map want_of fs) starts is.free) in
     let at = all_at everywhere (linked_at program) program fs starts (omega arith) size first rest (libraries_have_spans program fs are) free in
     (at, are_placed everywhere program fs starts size at first rest free is.apart)
 

@@ -21,7 +21,7 @@ use Rattle.pl_form.specs.Back.{has_undo_section, find_undo}
 use Rattle.pl_object.proofs.SpanLaws.{Ends}
 use Rattle.pl_slots.specs.Holes.{is_free}
 use Rattle.pl_loader.specs.Loading.{IsRead, IsForm, IsFormIfMarked}
-use Rattle.pl_loader.specs.Places.{load_range, segments_by, segments_of, taken}
+use Rattle.pl_loader.specs.Places.{load_range, segments_by, segments_of, program_ranges}
 use Rattle.pl_loader.specs.declared.object_file.Mark.{Mark}
 use Rattle.pl_loader.specs.declared.object_file.ObjectFile.{ObjectFile}
 use Rattle.pl_loader.proofs.SpanLaws.{spanned}
@@ -111,6 +111,6 @@ takes_by f (Some k) read program is a here =
     ] in
     borne_takes k.slot f.object.segments (segments k.file (header k.file)) low form.bears.each a here
 
-pub program_takes : (f : ObjectFile) → IsRead f → is_library f.object.kind ≡ false → (a : ℕ) → is_free a (map load_range (loads f.object.segments)) ≡ true → is_free a (taken f) ≡ true
-unfolding taken
+pub program_takes : (f : ObjectFile) → IsRead f → is_library f.object.kind ≡ false → (a : ℕ) → is_free a (map load_range (loads f.object.segments)) ≡ true → is_free a (program_ranges f) ≡ true
+unfolding program_ranges
 program_takes f read program a here = takes_by f f.mark read program refl a here

@@ -45,7 +45,7 @@ use Rattle.pl_loader.specs.declared.fault.LoadFault.{LoadFault}
 
 -- ---- the parts' faults
 
-pub of_file_tells : (name : List ℕ) (e : FileFault) → form.is_memory e ≡ false → is_memory (of_file name e) ≡ false
+pub of_file_tells : (name : List ℕ) (e : FileFault) → form.file_fault_is_memory e ≡ false → is_memory (of_file name e) ≡ false
 of_file_tells name file_fault.BadMark t = refl
 of_file_tells name (file_fault.Refused (refusal.Clause number argument)) t = refl
 of_file_tells name (file_fault.Refused refusal.NoMemory) t = t
@@ -68,24 +68,24 @@ of_link_tells fs (link.CopyOutside member symbol) = refl
 
 -- ---- the files
 
-accepted_tells : (r : Result Object Refusal) → NeverMemory object.is_memory r → NeverMemory form.is_memory (as_file r)
+accepted_tells : (r : Result Object Refusal) → NeverMemory object.is_memory r → NeverMemory form.file_fault_is_memory (as_file r)
 unfolding NeverMemory
 accepted_tells (Ok x) t = tt
 accepted_tells (Err (refusal.Clause number argument)) t = refl
 accepted_tells (Err refusal.NoMemory) t = t
 
-file_tells : (bytes : List ℕ) (o : Option Marked) → NeverMemory form.is_memory (file_by bytes o)
-file_tells bytes None = unless_tells form.is_memory _ _ _ refl (accepted_tells (reads bytes) (reads_tells bytes))
-file_tells bytes (Some m) = ok_tells form.is_memory _
+file_tells : (bytes : List ℕ) (o : Option Marked) → NeverMemory form.file_fault_is_memory (file_by bytes o)
+file_tells bytes None = unless_tells form.file_fault_is_memory _ _ _ refl (accepted_tells (reads bytes) (reads_tells bytes))
+file_tells bytes (Some m) = ok_tells form.file_fault_is_memory _
 
-pub file_in_tells : (bytes : List ℕ) → NeverMemory form.is_memory (file_in bytes)
+pub file_in_tells : (bytes : List ℕ) → NeverMemory form.file_fault_is_memory (file_in bytes)
 unfolding file_in
 file_in_tells bytes = file_tells bytes (marked_in bytes)
 
 read_tells : (name n bytes : List ℕ) → NeverMemory is_memory (read_in name n bytes)
 unfolding read_in named loadable file_in
 read_tells name n bytes =
-    then_tells is_memory _ _ (then_tells is_memory _ _ (because_tells form.is_memory is_memory (of_file n) _ (of_file_tells n) (file_tells bytes (marked_in bytes))) (λ file. ok_tells is_memory _))
+    then_tells is_memory _ _ (then_tells is_memory _ _ (because_tells form.file_fault_is_memory is_memory (of_file n) _ (of_file_tells n) (file_tells bytes (marked_in bytes))) (λ file. ok_tells is_memory _))
     (λ f. unless_tells is_memory _ _ _ refl (ok_tells is_memory f))
 
 file_of_tells : {E : Type 0} (fault : LoadFault → E) (m : E → Bool) (file : List ℕ → Result (List ℕ) E) (name n : List ℕ) → Keeps is_memory m fault → ((n : List ℕ) → NeverMemory m (file n)) → NeverMemory m (file_of fault file name n)

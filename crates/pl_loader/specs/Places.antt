@@ -39,8 +39,8 @@ abbrev pub segments_of : ObjectFile → List Segment
 segments_of f = segments_by f.object.segments f.mark
 
 -- the addresses that a program's file takes, as it stands
-unfoldable pub taken : ObjectFile → List Range
-taken program = map load_range (loads (segments_of program))
+unfoldable pub program_ranges : ObjectFile → List Range
+program_ranges program = map load_range (loads (segments_of program))
 
 -- the addresses that a library wants
 abbrev pub want_of : ObjectFile → Want
@@ -118,7 +118,7 @@ joined (None ∷ owns) (start ∷ starts) = start ∷ joined owns starts
 
 -- what is taken before any library is placed
 abbrev pub taken_first : Option Range → ObjectFile → List Range
-taken_first busy program = taken program ++ kept_free busy
+taken_first busy program = program_ranges program ++ kept_free busy
 
 -- the slots of the libraries beside a program
 abbrev pub slot_places_beside : Option Range → ObjectFile → List ObjectFile → List (Option ℕ)

@@ -52,10 +52,10 @@ fn loads_of(alloc: Global, file: &ObjectFile) -> Result<Vec<Segment>, AllocError
 }
 
 /// The addresses that a program's file takes, as it stands.
-#[tactic(auto, unfolding(crate::specs::Places::taken))]
-fn taken(alloc: Global, program: &ObjectFile) -> Result<Vec<Range>, AllocError>
+#[tactic(auto, unfolding(crate::specs::Places::program_ranges))]
+fn program_ranges(alloc: Global, program: &ObjectFile) -> Result<Vec<Range>, AllocError>
     requires { IsRead program.now }
-    ensures { IfOk result (λ ranges. ranges.items ≡ spec.taken program.now) }
+    ensures { IfOk result (λ ranges. ranges.items ≡ spec.program_ranges program.now) }
 {
     let mut ranges = Vec::new(alloc);
     for segment in &loads_of(alloc, program)? {
@@ -73,7 +73,7 @@ fn taken_first(
     requires { IsRead program.now }
     ensures { IfOk result (λ ranges. ranges.items ≡ spec.taken_first busy program.now) }
 {
-    let mut ranges = taken(alloc, program)?;
+    let mut ranges = program_ranges(alloc, program)?;
     if let Some(range) = busy {
         ranges.push(range)?;
     }

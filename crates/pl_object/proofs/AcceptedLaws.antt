@@ -28,7 +28,7 @@ use Rattle.pl_sym.specs.Table as table
 use Rattle.pl_sym.specs.declared.constants.TheConstants.{SYMBOL_SIZE}
 use Rattle.pl_sym.specs.declared.symbol.Symbol.{Symbol}
 use Rattle.pl_hash.specs.Chain.{well_formed, IsWellFormed}
-use Rattle.pl_hash.specs.declared.table.Table.{Table}
+use Rattle.pl_hash.specs.Table.{HashTable}
 use Rattle.pl_hash.proofs.WholeLaws.{IsWellFormed-from}
 use Rattle.pl_ver.specs.declared.versions.Versions.{Versions}
 use Rattle.pl_object.specs.FilePart.{file_window, in_file_part, loaded}
@@ -37,7 +37,7 @@ use Rattle.pl_object.specs.Names.{strings, needed, symbols, versions, versioned}
 use Rattle.pl_object.specs.SymbolClauses.{has_ifunc, check_symbols, base_not_zero, hash_table, hash_tables, defines, misses_one, is_incomplete, hash_incomplete, duplicate_definer}
 use Rattle.pl_object.specs.TableClauses.{check_tables}
 use Rattle.pl_object.specs.Relocations.{width, raw_width, relocs, packed_reloc, packed_relocs, place, places}
-use Rattle.pl_object.specs.PlaceClauses.{is_bad, first_bad, is_held, reloc_outside, rows_of, packed_of, any_outside, reloc_overlap, reloc_in_tables, spots, odd_addend, misplaced_copy, check_places, check_relocs}
+use Rattle.pl_object.specs.PlaceClauses.{is_bad, first_bad, is_held, reloc_outside, rows_of, last_packed, any_place_outside, reloc_overlap, reloc_in_tables, spots, odd_addend, misplaced_copy, check_places, check_relocs}
 use Rattle.pl_object.specs.Reads.{reads, headers, parts, static_program, static_object, dynamic as table_read, dynamic_object, linking, layout, relocations, packed_places, check, checked, check_rest, too_large, is_pie, object}
 use Rattle.pl_object.specs.Accepted.{HasHead, tags_of, IsTabled, Accepted}
 use Rattle.pl_object.specs.Refusals.{is_memory, of_header, of_dynamic, of_symbols}
@@ -62,10 +62,10 @@ unfound None fault next x e = (refl, e)
 -- ---- relocations
 
 places_pass : (program : Bool) (ss : List Segment) (ws : List Window) (packed : ℕ) (rs : List Reloc) (u : Unit {0}) → check_places program ss ws packed rs ≡ Ok u
-    → (any_outside program ss packed rs || (reloc_overlap rs || (reloc_in_tables ws ss rs || (odd_addend rs || false)))) ≡ false
+    → (any_place_outside program ss packed rs || (reloc_overlap rs || (reloc_in_tables ws ss rs || (odd_addend rs || false)))) ≡ false
 unfolding check_places
 places_pass program ss ws packed rs u e =
-    refuse_none ((any_outside program ss packed rs, Clause 24 0) ∷ (reloc_overlap rs, Clause 25 0) ∷ (reloc_in_tables ws ss rs, Clause 26 0) ∷ (odd_addend rs, Clause 27 0) ∷ []) (Ok tt) (ap (λ (r : Result (Unit {0}) Refusal). is_ok r) e)
+    refuse_none ((any_place_outside program ss packed rs, Clause 24 0) ∷ (reloc_overlap rs, Clause 25 0) ∷ (reloc_in_tables ws ss rs, Clause 26 0) ∷ (odd_addend rs, Clause 27 0) ∷ []) (Ok tt) (ap (λ (r : Result (Unit {0}) Refusal). is_ok r) e)
 
 -- where no place is outside of the file part, none is outside of it and of the memory of the last PT_LOAD
 inside_either : (program : Bool) (ss : List Segment) (m : Window) → not (is_held false ss m) ≡ false → not (is_held program ss m) ≡ false
@@ -84,7 +84,7 @@ all_either program ss (m ∷ ms) e =
 places_append : (xs ys : List Reloc) → places (xs ++ ys) ≡ places xs ++ places ys
 places_append xs ys = map-append place xs ys
 
-all_held : (program : Bool) (ss : List Segment) (packed : ℕ) (rs : List Reloc) → reloc_outside program ss (rows_of packed rs) ≡ false → reloc_outside false ss (packed_of packed rs) ≡ false → reloc_outside program ss rs ≡ false
+all_held : (program : Bool) (ss : List Segment) (packed : ℕ) (rs : List Reloc) → reloc_outside program ss (rows_of packed rs) ≡ false → reloc_outside false ss (last_packed packed rs) ≡ false → reloc_outside program ss rs ≡ false
 unfolding reloc_outside
 all_held program ss packed rs rows last =
     let n : ℕ = length rs - packed in
@@ -97,18 +97,18 @@ all_held program ss packed rs rows last =
 pub record AreChecked (program : Bool) (ss : List Segment) (ws : List Window) (count packed : ℕ) (rs : List Reloc) : Type 0 where
   pub relocs : list_any (is_bad count) rs ≡ false
   pub held : reloc_outside program ss rs ≡ false
-  pub packed_held : reloc_outside false ss (packed_of packed rs) ≡ false
+  pub packed_held : reloc_outside false ss (last_packed packed rs) ≡ false
   pub apart : reloc_overlap rs ≡ false
   pub clear : reloc_in_tables ws ss rs ≡ false
   pub plain : odd_addend rs ≡ false
 
 relocs_pass : (program : Bool) (ss : List Segment) (ws : List Window) (count packed : ℕ) (rs : List Reloc) (u : Unit {0}) → check_relocs program ss ws count packed rs ≡ Ok u → AreChecked program ss ws count packed rs
-unfolding check_relocs first_bad any_outside
+unfolding check_relocs first_bad any_place_outside
 relocs_pass program ss ws count packed rs u e =
     let p = unfound (find (is_bad count) rs) (λ r. Clause 23 r.kind) (check_places program ss ws packed rs) u e in
     let all = places_pass program ss ws packed rs u p.1 in
-    let a = or_parts (any_outside program ss packed rs) (reloc_overlap rs || (reloc_in_tables ws ss rs || (odd_addend rs || false))) all in
-    let h = or_parts (reloc_outside program ss (rows_of packed rs)) (reloc_outside false ss (packed_of packed rs)) a.0 in
+    let a = or_parts (any_place_outside program ss packed rs) (reloc_overlap rs || (reloc_in_tables ws ss rs || (odd_addend rs || false))) all in
+    let h = or_parts (reloc_outside program ss (rows_of packed rs)) (reloc_outside false ss (last_packed packed rs)) a.0 in
     let b = or_parts (reloc_overlap rs) (reloc_in_tables ws ss rs || (odd_addend rs || false)) a.1 in
     let c = or_parts (reloc_in_tables ws ss rs) (odd_addend rs || false) b.1 in
     let d = or_parts (odd_addend rs) false c.1 in
@@ -177,28 +177,28 @@ symbol_width bytes f tags l k kind symbol lt =
 table_counted : (bytes : List ℕ) (ss : List Segment) (secs : List Section) (tags : List Tag) (count : ℕ) (gnu : Bool) (number : ℕ) → All (λ table. table.symbols ≡ count) (hash_table bytes ss secs tags count gnu number)
 unfolding hash_table
 table_counted bytes ss secs tags count gnu number =
-    elim (has_tag number tags) as (λ b. All (λ (t : Table). t.symbols ≡ count) (if b then record { words = loaded bytes ss (section_memory number tags secs); gnu = gnu; symbols = count } ∷ [] else [])) [
-      | true ↦ All-cons (λ (t : Table). t.symbols ≡ count) _ [] refl (All-nil (λ (t : Table). t.symbols ≡ count))
-      | false ↦ All-nil (λ (t : Table). t.symbols ≡ count)
+    elim (has_tag number tags) as (λ b. All (λ (t : HashTable). t.symbols ≡ count) (if b then record { words = loaded bytes ss (section_memory number tags secs); gnu = gnu; symbols = count } ∷ [] else [])) [
+      | true ↦ All-cons (λ (t : HashTable). t.symbols ≡ count) _ [] refl (All-nil (λ (t : HashTable). t.symbols ≡ count))
+      | false ↦ All-nil (λ (t : HashTable). t.symbols ≡ count)
     ]
 
 tables_counted : (bytes : List ℕ) (ss : List Segment) (secs : List Section) (tags : List Tag) (count : ℕ) → All (λ table. table.symbols ≡ count) (hash_tables bytes ss secs tags count)
 unfolding hash_tables
 tables_counted bytes ss secs tags count =
-    All-append (λ (t : Table). t.symbols ≡ count) (hash_table bytes ss secs tags count false DT_HASH) (hash_table bytes ss secs tags count true DT_GNU_HASH)
+    All-append (λ (t : HashTable). t.symbols ≡ count) (hash_table bytes ss secs tags count false DT_HASH) (hash_table bytes ss secs tags count true DT_GNU_HASH)
     (table_counted bytes ss secs tags count false DT_HASH) (table_counted bytes ss secs tags count true DT_GNU_HASH)
 
-one_formed : (symbols : List Symbol) (t : Table) → is_incomplete symbols t ≡ false → IsWellFormed t
+one_formed : (symbols : List Symbol) (t : HashTable) → is_incomplete symbols t ≡ false → IsWellFormed t
 unfolding is_incomplete
 one_formed symbols t e = IsWellFormed-from t (not-false _ (or_parts (not (well_formed t)) (misses_one symbols t) e).0)
 
-tables_formed : (tables : List Table) (symbols : List Symbol) → hash_incomplete tables symbols ≡ false → All IsWellFormed tables
+tables_formed : (tables : List HashTable) (symbols : List Symbol) → hash_incomplete tables symbols ≡ false → All IsWellFormed tables
 unfolding hash_incomplete
 tables_formed tables symbols e =
     let p = or_parts (length tables == 0 && list_any defines symbols) (list_any (is_incomplete symbols) tables) e in
     λ k d lt. one_formed symbols (get_or tables k d) (none_at (is_incomplete symbols) tables k d lt p.1)
 
-symbols_pass : (program : Bool) (ss : List Segment) (tables : List Table) (known : Option Versions) (symbols : List Symbol) (u : Unit {0}) → check_symbols program ss tables known symbols ≡ Ok u → hash_incomplete tables symbols ≡ false
+symbols_pass : (program : Bool) (ss : List Segment) (tables : List HashTable) (known : Option Versions) (symbols : List Symbol) (u : Unit {0}) → check_symbols program ss tables known symbols ≡ Ok u → hash_incomplete tables symbols ≡ false
 unfolding check_symbols
 symbols_pass program ss tables known symbols u e =
     let none = refuse_none ((base_not_zero program ss, Clause 20 0) ∷ (hash_incomplete tables symbols, Clause 21 0) ∷ (duplicate_definer known program symbols, Clause 22 0) ∷ []) (Ok tt) (ap (λ (r : Result (Unit {0}) Refusal). is_ok r) e) in
@@ -278,7 +278,7 @@ accepted_static bytes h is = record {
   tabled = λ other. absurd (true≢false other);
   few = omega arith;
   formed = All-nil IsWellFormed;
-  counted = All-nil (λ (t : Table). t.symbols ≡ 0);
+  counted = All-nil (λ (t : HashTable). t.symbols ≡ 0);
   hashed = refl;
   relocs = refl;
   widths = All-nil (HasWidth []);

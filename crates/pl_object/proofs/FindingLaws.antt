@@ -4,7 +4,7 @@ use Rattle.std.specs.Prelude.{slice_get, slice_index}
 use Rattle.std.specs.List.{list_any, range_with_len}
 use Rattle.std.proofs.lemmas.List.{length-map}
 use Rattle.pl_sym.specs.declared.symbol.Symbol.{Symbol}
-use Rattle.pl_hash.specs.declared.table.Table.{Table}
+use Rattle.pl_hash.specs.Table.{HashTable}
 use Rattle.pl_hash.specs.ChainSymbols.{name_hash, is_chain_symbol}
 use Rattle.pl_object.specs.SymbolClauses.{defines, is_missed, misses_one}
 use Rattle.pl_object.specs.Finding.{is_unfound}
@@ -19,7 +19,7 @@ at_map f [] i s e = absurd cc
 at_map f (x ∷ xs) zero s e = cc
 at_map f (x ∷ xs) (suc i) s e = at_map f xs i s e
 
-pub misses_is : (table : Table) (symbols : List Symbol) (hashes : List ℕ) (found : List Bool) → hashes ≡ map (λ s. name_hash table s.name) symbols
+pub misses_is : (table : HashTable) (symbols : List Symbol) (hashes : List ℕ) (found : List Bool) → hashes ≡ map (λ s. name_hash table s.name) symbols
     → ((i : ℕ) → i < length hashes → get_or found i false ≡ is_chain_symbol table (slice_index hashes i) i)
     → list_any (λ i. is_unfound (get_or found i false) (slice_get symbols i)) (range_with_len 0 (length symbols)) ≡ misses_one symbols table
 unfolding misses_one

@@ -31,7 +31,7 @@ use Rattle.pl_relr.specs.declared.fault.RelrFault.{RelrFault}
 use Rattle.pl_relr.specs.declared.fault.RelrFault.TheVariants.{Packed}
 use Rattle.pl_object.specs.FilePart.{nothing, loader, loaded_by, file_window, in_file_part, loaded}
 use Rattle.pl_object.specs.Tables.{has_tag, value, memory_of, dynamic_memory, tag_memory, has_kind, section_size, symbols_memory, strings_memory, rela_memory, jmprel_memory, relr_memory, tables_memory, symtab_windows, main_windows, link_windows, window_range}
-use Rattle.pl_object.specs.TableClauses.{lacks_tags, is_misplaced, other_dynsym, any_lost, any_outside, tables_overlap, bad_tables, parted, is_other, is_uneven, bad_rela, bad_jmprel, bad_relocation_tables, meets, relr_table, bad_relr_tags, misplaced_relr, bad_relr_table, bad_packed, check_tables}
+use Rattle.pl_object.specs.TableClauses.{lacks_tags, is_misplaced, other_dynsym, any_lost, any_table_outside, tables_overlap, bad_tables, parted, is_other, is_uneven, bad_rela, bad_jmprel, bad_relocation_tables, meets, relr_table, bad_relr_tags, misplaced_relr, bad_relr_table, bad_packed, check_tables}
 use Rattle.pl_object.specs.Named.{range_window, dynamic_of, symbols_of, strings_of, rela_of, jmprel_of, packed_of, symtabs_of}
 use Rattle.pl_object.specs.Reads.{dynamic, named_places, packed_places}
 use Rattle.pl_object.specs.Accepted.{AreWhole, AreNamed}
@@ -133,14 +133,14 @@ pub record ArePassed (bytes : List ℕ) (h : Header) (ss : List Segment) (secs :
   pub packed : bad_packed bytes h ss secs ts ≡ false
 
 pub tables_pass : (bytes : List ℕ) (h : Header) (ss : List Segment) (secs : List Section) (ts : List Tag) (u : Unit {0}) → check_tables bytes h ss secs ts ≡ Ok u → ArePassed bytes h ss secs ts
-unfolding check_tables bad_tables any_outside tables_overlap
+unfolding check_tables bad_tables any_table_outside tables_overlap
 tables_pass bytes h ss secs ts u e =
     let none = refuse_none ((bad_tables h ss secs ts, Clause 12 0) ∷ (bad_relocation_tables ts, Clause 13 0) ∷ (bad_packed bytes h ss secs ts, Clause 14 0) ∷ []) (Ok tt) (ap (λ (r : Result (Unit {0}) Refusal). is_ok r) e) in
     let p = or_parts (bad_tables h ss secs ts) (bad_relocation_tables ts || (bad_packed bytes h ss secs ts || false)) none in
     let q = or_parts (bad_relocation_tables ts) (bad_packed bytes h ss secs ts || false) p.1 in
     let r = or_parts (bad_packed bytes h ss secs ts) false q.1 in
-    let a = or_parts (lacks_tags ts || other_dynsym ts secs || any_outside ss secs ts) (tables_overlap h ss secs ts) p.0 in
-    let b = or_parts (lacks_tags ts || other_dynsym ts secs) (any_outside ss secs ts) a.0 in
+    let a = or_parts (lacks_tags ts || other_dynsym ts secs || any_table_outside ss secs ts) (tables_overlap h ss secs ts) p.0 in
+    let b = or_parts (lacks_tags ts || other_dynsym ts secs) (any_table_outside ss secs ts) a.0 in
     let c = or_parts (lacks_tags ts) (other_dynsym ts secs) b.0 in
     let o = or_parts (any_lost ts secs) (list_any (λ w. not (in_file_part ss w)) (tables_memory ts secs)) b.1 in
     record { lacks = c.0; dynsym = c.1; inside = o.1; overlap = a.1; rows = q.0; packed = r.0 }

@@ -13,7 +13,7 @@ use Rattle.pl_dyn.specs.declared.tags.Tag.{Tag}
 use Rattle.pl_sym.specs.declared.constants.TheConstants.{SYMBOL_SIZE}
 use Rattle.pl_sym.specs.declared.symbol.Symbol.{Symbol}
 use Rattle.pl_hash.specs.Chain.{IsWellFormed}
-use Rattle.pl_hash.specs.declared.table.Table.{Table}
+use Rattle.pl_hash.specs.Table.{HashTable}
 use Rattle.pl_relr.specs.Places as relr
 use Rattle.pl_object.specs.FilePart.{file_window, in_file_part, loaded}
 use Rattle.pl_object.specs.Tables.{has_tag, window_range, dynamic_memory, symbols_memory, strings_memory, rela_memory, jmprel_memory, relr_memory, tables_memory, symtab_windows, sections_window, main_windows, link_windows}
@@ -133,7 +133,7 @@ pub record Accepted (bytes : List ℕ) (o : Object) : Type 0 where
   pub held : reloc_outside (is_exec o) o.segments o.relocations ≡ false
   -- those of the packed relocations, which stand last, are in the file part
   pub packed_few : o.packed ≤ length o.relocations
-  pub packed_held : reloc_outside false o.segments (clauses.packed_of o.packed o.relocations) ≡ false
+  pub packed_held : reloc_outside false o.segments (clauses.last_packed o.packed o.relocations) ≡ false
   -- no two places share a byte
   pub apart : reloc_overlap o.relocations ≡ false
   -- no place shares a byte with a table

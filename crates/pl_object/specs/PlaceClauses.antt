@@ -52,12 +52,12 @@ reloc_outside program ss rs = list_any (λ memory. not (is_held program ss memor
 abbrev pub rows_of : ℕ → List Reloc → List Reloc
 rows_of packed rs = take (length rs - packed) rs
 
-abbrev pub packed_of : ℕ → List Reloc → List Reloc
-packed_of packed rs = drop (length rs - packed) rs
+abbrev pub last_packed : ℕ → List Reloc → List Reloc
+last_packed packed rs = drop (length rs - packed) rs
 
 -- a place of a row, or a packed one, which has to be in the file part in a program too
-unfoldable pub any_outside : Bool → List Segment → ℕ → List Reloc → Bool
-any_outside program ss packed rs = reloc_outside program ss (rows_of packed rs) || reloc_outside false ss (packed_of packed rs)
+unfoldable pub any_place_outside : Bool → List Segment → ℕ → List Reloc → Bool
+any_place_outside program ss packed rs = reloc_outside program ss (rows_of packed rs) || reloc_outside false ss (last_packed packed rs)
 
 -- ---- 25. RelocOverlap
 
@@ -96,7 +96,7 @@ misplaced_copy program rs = list_any (is_misplaced_copy program) rs
 unfoldable pub check_places : Bool → List Segment → List Window → ℕ → List Reloc → Result (Unit {0}) Refusal
 check_places program ss tables packed rs =
     refuse (
-    (any_outside program ss packed rs, Clause 24 0) ∷ (reloc_overlap rs, Clause 25 0)
+    (any_place_outside program ss packed rs, Clause 24 0) ∷ (reloc_overlap rs, Clause 25 0)
     ∷ (reloc_in_tables tables ss rs, Clause 26 0) ∷ (odd_addend rs, Clause 27 0) ∷ [])
     (Ok tt)
 

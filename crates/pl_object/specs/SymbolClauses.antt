@@ -17,7 +17,7 @@ use Rattle.pl_sym.specs.declared.symbol.Symbol.{Symbol}
 use Rattle.pl_sym.specs.declared.class.Class.TheVariants.{Jump, Other}
 use Rattle.pl_hash.specs.ChainSymbols.{is_chain_symbol, name_hash}
 use Rattle.pl_hash.specs.Chain.{well_formed}
-use Rattle.pl_hash.specs.declared.table.Table.{Table}
+use Rattle.pl_hash.specs.Table.{HashTable}
 use Rattle.pl_ver.specs.Fields.{index_of}
 use Rattle.pl_ver.specs.Versions.{version_of}
 use Rattle.pl_ver.specs.declared.constants.TheConstants.{VER_NDX_GLOBAL}
@@ -40,11 +40,11 @@ base_not_zero program ss = not program && is_above (segment_of_kind PT_LOAD ss)
 -- ---- 21. HashIncomplete
 
 -- the hash table of a tag, where the tag is there
-unfoldable pub hash_table : List ℕ → List Segment → List Section → List Tag → ℕ → Bool → ℕ → List Table
+unfoldable pub hash_table : List ℕ → List Segment → List Section → List Tag → ℕ → Bool → ℕ → List HashTable
 hash_table bytes ss sections tags count gnu number =
     if has_tag number tags then record { words = loaded bytes ss (section_memory number tags sections); gnu = gnu; symbols = count } ∷ [] else []
 
-unfoldable pub hash_tables : List ℕ → List Segment → List Section → List Tag → ℕ → List Table
+unfoldable pub hash_tables : List ℕ → List Segment → List Section → List Tag → ℕ → List HashTable
 hash_tables bytes ss sections tags count =
     hash_table bytes ss sections tags count false DT_HASH ++ hash_table bytes ss sections tags count true DT_GNU_HASH
 
@@ -52,19 +52,19 @@ hash_tables bytes ss sections tags count =
 abbrev pub defines : Symbol → Bool
 defines s = is_definer s Jump false
 
-abbrev pub is_missed : Table → ℕ → Option Symbol → Bool
+abbrev pub is_missed : HashTable → ℕ → Option Symbol → Bool
 is_missed table index None = false
 is_missed table index (Some s) = defines s && not (is_chain_symbol table (name_hash table s.name) index)
 
 -- a definer to which the hash of its own name does not lead
-unfoldable pub misses_one : List Symbol → Table → Bool
+unfoldable pub misses_one : List Symbol → HashTable → Bool
 misses_one symbols table = list_any (λ index. is_missed table index (slice_get symbols index)) (range_with_len 0 (length symbols))
 
 -- a table that is not well formed, or misses a definer
-unfoldable pub is_incomplete : List Symbol → Table → Bool
+unfoldable pub is_incomplete : List Symbol → HashTable → Bool
 is_incomplete symbols table = not (well_formed table) || misses_one symbols table
 
-unfoldable pub hash_incomplete : List Table → List Symbol → Bool
+unfoldable pub hash_incomplete : List HashTable → List Symbol → Bool
 hash_incomplete tables symbols =
     length tables == 0 && list_any defines symbols || list_any (is_incomplete symbols) tables
 
@@ -106,7 +106,7 @@ has_ifunc symbols = list_any is_ifunc symbols
 
 -- ---- 20 to 22 in order
 
-unfoldable pub check_symbols : Bool → List Segment → List Table → Option Versions → List Symbol → Result (Unit {0}) Refusal
+unfoldable pub check_symbols : Bool → List Segment → List HashTable → Option Versions → List Symbol → Result (Unit {0}) Refusal
 check_symbols program ss tables versions symbols =
     refuse (
     (base_not_zero program ss, Clause 20 0) ∷ (hash_incomplete tables symbols, Clause 21 0)

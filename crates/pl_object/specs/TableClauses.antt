@@ -39,8 +39,8 @@ any_lost tags sections =
     || is_lost DT_VERDEF tags sections || is_lost DT_VERNEED tags sections
 
 -- a table that a tag names is not in the file part
-unfoldable pub any_outside : List Segment → List Section → List Tag → Bool
-any_outside ss sections tags = any_lost tags sections || list_any (λ w. not (in_file_part ss w)) (tables_memory tags sections)
+unfoldable pub any_table_outside : List Segment → List Section → List Tag → Bool
+any_table_outside ss sections tags = any_lost tags sections || list_any (λ w. not (in_file_part ss w)) (tables_memory tags sections)
 
 -- two tables overlap in the file
 unfoldable pub tables_overlap : Header → List Segment → List Section → List Tag → Bool
@@ -48,7 +48,7 @@ tables_overlap h ss sections tags = any_share (main_windows h ss sections tags)
 
 unfoldable pub bad_tables : Header → List Segment → List Section → List Tag → Bool
 bad_tables h ss sections tags =
-    lacks_tags tags || other_dynsym tags sections || any_outside ss sections tags || tables_overlap h ss sections tags
+    lacks_tags tags || other_dynsym tags sections || any_table_outside ss sections tags || tables_overlap h ss sections tags
 
 -- ---- 13. RelTable
 

@@ -98,9 +98,9 @@ fn reloc_outside(program: bool, loads: &Loads, relocs: &[Reloc]) -> bool
 }
 
 /// Clause 24, where so many packed relocations stand last.
-#[tactic(auto, unfolding(crate::specs::PlaceClauses::any_outside))]
-fn any_outside(program: bool, loads: &Loads, packed: u32, relocs: &[Reloc]) -> bool
-    ensures { result ≡ spec.any_outside program loads.now packed relocs.now }
+#[tactic(auto, unfolding(crate::specs::PlaceClauses::any_place_outside))]
+fn any_place_outside(program: bool, loads: &Loads, packed: u32, relocs: &[Reloc]) -> bool
+    ensures { result ≡ spec.any_place_outside program loads.now packed relocs.now }
 {
     let (rows, packed) = relocs.split_at(relocs.len().saturating_sub(packed as usize));
     reloc_outside(program, loads, rows) || reloc_outside(false, loads, packed)
@@ -187,7 +187,7 @@ fn check_places(
     ensures { Answers is_memory result (spec.check_places program loads.now tables.now packed
         relocs.now) }
 {
-    if any_outside(program, loads, packed, relocs) {
+    if any_place_outside(program, loads, packed, relocs) {
         return Err(Refusal::clause(24));
     }
     if reloc_overlap(alloc, relocs)? {

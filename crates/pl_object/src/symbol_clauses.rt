@@ -44,12 +44,12 @@ fn table_of(alloc: Global, words: &[u8], gnu: bool, symbols: u32) -> Result<Tabl
     ensures { IfOk result (λ table. table ≡ record
         { words = words.now; gnu = gnu; symbols = symbols }) }
 {
-    let words = Vec::from_slice(alloc, words)?;
-    Ok(Table {
-        words: Rows::from_vec(words),
-        gnu,
-        symbols,
-    })
+    let words = Rows::from_vec(Vec::from_slice(alloc, words)?);
+    if gnu {
+        Ok(Table::gnu(words, symbols))
+    } else {
+        Ok(Table::sysv(words, symbols))
+    }
 }
 
 /// Adds the hash table of a tag, where the tag is there.

@@ -84,9 +84,9 @@ fn any_not_in_file(segments: &[Segment], ranges: &[Window]) -> bool
     ranges.iter().any(|memory| !in_file_part(segments, *memory))
 }
 
-#[tactic(auto, unfolding(crate::specs::TableClauses::any_outside))]
-fn any_outside(segments: &[Segment], sections: &[Section], tags: &[Tag]) -> bool
-    ensures { result ≡ spec.any_outside segments.now sections.now tags.now }
+#[tactic(auto, unfolding(crate::specs::TableClauses::any_table_outside))]
+fn any_table_outside(segments: &[Segment], sections: &[Section], tags: &[Tag]) -> bool
+    ensures { result ≡ spec.any_table_outside segments.now sections.now tags.now }
 {
     any_lost(tags, sections) || any_not_in_file(segments, &tables_memory(tags, sections))
 }
@@ -121,7 +121,7 @@ fn bad_tables(
     Ok(
         lacks_tags(tags)
             || other_dynsym(tags, sections)
-            || any_outside(segments, sections, tags)
+            || any_table_outside(segments, sections, tags)
             || overlap,
     )
 }

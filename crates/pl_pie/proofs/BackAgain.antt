@@ -354,12 +354,12 @@ module _ (bytes : List ℕ) (o : Object) (at : ℕ) (is : IsAt bytes o at) (some
         ap (λ (ss : List Symbol). map (λ i. (symbols_of x).at + 24 * i + 8) (indices is_address ss)) x_symbols
         ∙ ap (map (λ i. (symbols_of x).at + 24 * i + 8)) symbols_kept ∙ undefined_by symbols_same
 
-    packed_moved : places.packed_of o.packed (map (fixed_reloc at) o.relocations) ≡ map (fixed_reloc at) (places.packed_of o.packed o.relocations)
+    packed_moved : places.last_packed o.packed (map (fixed_reloc at) o.relocations) ≡ map (fixed_reloc at) (places.last_packed o.packed o.relocations)
     packed_moved =
         ap (λ (n : ℕ). drop (n - o.packed) (map (fixed_reloc at) o.relocations)) (length-map o.relocations (fixed_reloc at))
         ∙ drop-map (fixed_reloc at) (length o.relocations - o.packed) o.relocations
 
-    packed_spots : map (spot (map (fixed_segment at) o.segments)) (map (fixed_reloc at) (places.packed_of o.packed o.relocations)) ≡ map (spot o.segments) (places.packed_of o.packed o.relocations)
+    packed_spots : map (spot (map (fixed_segment at) o.segments)) (map (fixed_reloc at) (places.last_packed o.packed o.relocations)) ≡ map (spot o.segments) (places.last_packed o.packed o.relocations)
     unfolding reloc_outside
     packed_spots =
         let last = packed_is p o is.pie.accepted is.other in

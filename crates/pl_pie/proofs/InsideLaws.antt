@@ -16,7 +16,7 @@ use Rattle.pl_relr.specs.Places as relr
 use Rattle.pl_object.specs.Accepted.{Accepted, tags_of}
 use Rattle.pl_object.specs.FilePart.{file_window, in_file_part}
 use Rattle.pl_object.specs.Named.{symbols_of}
-use Rattle.pl_object.specs.PlaceClauses.{is_held, reloc_outside, packed_of}
+use Rattle.pl_object.specs.PlaceClauses.{is_held, reloc_outside, last_packed}
 use Rattle.pl_object.specs.Relocations.{place, places, packed_reloc, packed_relocs, relocs}
 use Rattle.pl_object.specs.TableClauses.{relr_table}
 use Rattle.pl_object.specs.Tables.{symbols_memory, tables_memory, rela_memory, jmprel_memory, is_allocated}
@@ -103,7 +103,7 @@ last_of front last n is =
     let at : length (front ++ last) - n ≡ length front = omega (arith, is, length-append front last) in
     ap (λ (k : ℕ). drop k (front ++ last)) at ∙ drop-append_seam front last
 
-pub packed_is : (p : List ℕ) (o : Object) → Accepted p o → is_static o.kind ≡ false → packed_of o.packed o.relocations ≡ packed_relocs p o.segments (relr.places (relr_table p o.segments (tags_of p o)))
+pub packed_is : (p : List ℕ) (o : Object) → Accepted p o → is_static o.kind ≡ false → last_packed o.packed o.relocations ≡ packed_relocs p o.segments (relr.places (relr_table p o.segments (tags_of p o)))
 unfolding packed_relocs
 packed_is p o is other =
     let t = is.tabled other in
@@ -113,7 +113,7 @@ packed_is p o is other =
     let front : List Reloc = relocs o.symbols (loaded p o.segments (rela_memory ts)) ++ relocs o.symbols (loaded p o.segments (jmprel_memory ts)) in
     let rows : o.relocations ≡ front ++ last = t.rows in
     let count : o.packed ≡ length last = t.packed ∙ sym (length-map addresses (packed_reloc p o.segments)) in
-    ap (packed_of o.packed) rows ∙ last_of front last o.packed count
+    ap (last_packed o.packed) rows ∙ last_of front last o.packed count
 
 -- a window that is held in the file part stands there whole
 pub whole_at : (ss : List Segment) (m : Window) → not (is_held false ss m) ≡ false → (file_window ss m).size ≡ m.size

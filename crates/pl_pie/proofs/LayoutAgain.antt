@@ -12,7 +12,7 @@ use Rattle.pl_base.specs.Windows.{Window, within}
 use Rattle.pl_base.proofs.WordLaws.{is_bytes_part, word64_below}
 use Rattle.pl_dyn.specs.declared.tags.Tag.{Tag}
 use Rattle.pl_elf.specs.declared.segment.Segment.{Segment}
-use Rattle.pl_hash.specs.declared.table.Table.{Table}
+use Rattle.pl_hash.specs.Table.{HashTable}
 use Rattle.pl_object.specs.FilePart.{file_window, loaded}
 use Rattle.pl_object.specs.Reads.{layout, packed_places, relocations}
 use Rattle.pl_object.specs.Relocations.{file_word, packed_reloc, packed_relocs, relocs, word_of}
@@ -73,7 +73,7 @@ packed_moved at p file ss (a ∷ us) bytes all =
 three_mapped : (f : Reloc → Reloc) (xs ys zs : List Reloc) → map f xs ++ map f ys ++ map f zs ≡ map f (xs ++ ys ++ zs)
 three_mapped f xs ys zs = sym (map-append f (xs ++ ys) zs ∙ ap (λ (rs : List Reloc). rs ++ map f zs) (map-append f xs ys))
 
-layout_from : (xs : List ℕ) (f : Headers) (ts : List Tag) (l : Linking) (hs : List Table) (rs : List Reloc) (n : ℕ) → hash_tables xs f.segments f.sections ts (length l.symbols) ≡ hs → relocations xs f.segments ts l.symbols ≡ rs
+layout_from : (xs : List ℕ) (f : Headers) (ts : List Tag) (l : Linking) (hs : List HashTable) (rs : List Reloc) (n : ℕ) → hash_tables xs f.segments f.sections ts (length l.symbols) ≡ hs → relocations xs f.segments ts l.symbols ≡ rs
     → length (packed_places xs f.segments ts) ≡ n → layout xs f ts l ≡ record { hashes = hs; relocations = rs; packed = n; windows = link_windows f.header f.segments f.sections ts }
 unfolding layout
 layout_from xs f ts l hs rs n a b c = rw (a, b, c) refl

@@ -16,7 +16,7 @@ use Rattle.pl_elf.specs.Headers.{is_load}
 use Rattle.pl_elf.specs.declared.constants.TheConstants.{ADDRESS_LIMIT}
 use Rattle.pl_elf.specs.declared.segment.Segment.{Segment}
 use Rattle.pl_object.specs.FilePart.{file_window, in_file_part, loaded_by, loader, loads_byte}
-use Rattle.pl_object.specs.PlaceClauses.{any_outside, check_places, check_relocs, first_bad, is_bad, is_held, is_in_memory, is_in_segment, is_misplaced_copy, is_odd, last_load, misplaced_copy, odd_addend, packed_of, reloc_in_tables, reloc_outside, reloc_overlap, spots}
+use Rattle.pl_object.specs.PlaceClauses.{any_place_outside, check_places, check_relocs, first_bad, is_bad, is_held, is_in_memory, is_in_segment, is_misplaced_copy, is_odd, last_load, misplaced_copy, odd_addend, last_packed, reloc_in_tables, reloc_outside, reloc_overlap, spots}
 use Rattle.pl_object.specs.Relocations.{place, places}
 use Rattle.pl_object.specs.TableClauses.{meets}
 use Rattle.pl_object.specs.declared.reloc.Reloc.{Reloc}
@@ -94,7 +94,7 @@ pub record AreTaken (ss : List Segment) (tables : List Window) (count packed : �
   pub fair : All IsFair rs
   pub known : list_any (is_bad count) rs ≡ false
   pub held : reloc_outside true ss rs ≡ false
-  pub packed_held : reloc_outside false ss (packed_of packed rs) ≡ false
+  pub packed_held : reloc_outside false ss (last_packed packed rs) ≡ false
   pub apart : reloc_overlap rs ≡ false
   pub clear : reloc_in_tables tables ss rs ≡ false
   pub plain : odd_addend rs ≡ false
@@ -271,8 +271,8 @@ module _ (at : ℕ) (ss : List Segment) (stands : All (Stands at) ss) where
   any_taken p (suc n) [] none = refl
   any_taken p (suc n) (r ∷ rs) none = let q = or_parts (p (place r)) (list_any p (places rs)) none in or_from _ _ q.0 (any_taken p n rs q.1)
 
-  outside_again : (packed : ℕ) (rs : List Reloc) → All IsFair rs → reloc_outside true ss rs ≡ false → reloc_outside false ss (packed_of packed rs) ≡ false → any_outside true moved_segments packed (map (fixed_reloc at) rs) ≡ false
-  unfolding any_outside reloc_outside
+  outside_again : (packed : ℕ) (rs : List Reloc) → All IsFair rs → reloc_outside true ss rs ≡ false → reloc_outside false ss (last_packed packed rs) ≡ false → any_place_outside true moved_segments packed (map (fixed_reloc at) rs) ≡ false
+  unfolding any_place_outside reloc_outside
   outside_again packed rs fair rows last =
       let n : ℕ = length rs - packed in
       let out : Bool → Window → Bool = λ program m. not (is_held program moved_segments m) in
@@ -348,5 +348,5 @@ module _ (at : ℕ) (ss : List Segment) (stands : All (Stands at) ss) where
       let known : list_any (is_bad count) qs ≡ false = any_map (is_bad count) (fixed_reloc at) rs ∙ any_same (λ r. is_bad count (fixed_reloc at r)) (is_bad count) rs (bad_kept count) ∙ is.known in
       let plain : list_any is_odd qs ≡ false = any_map is_odd (fixed_reloc at) rs ∙ any_same (λ r. is_odd (fixed_reloc at r)) is_odd rs odd_kept ∙ is.plain in
       rw (none_found (is_bad count) qs known)
-      (refuse_next ((any_outside true moved_segments packed qs, Clause 24 0) ∷ (reloc_overlap qs, Clause 25 0) ∷ (reloc_in_tables new moved_segments qs, Clause 26 0) ∷ (list_any is_odd qs, Clause 27 0) ∷ []) (Ok tt)
+      (refuse_next ((any_place_outside true moved_segments packed qs, Clause 24 0) ∷ (reloc_overlap qs, Clause 25 0) ∷ (reloc_in_tables new moved_segments qs, Clause 26 0) ∷ (list_any is_odd qs, Clause 27 0) ∷ []) (Ok tt)
       (or_from _ _ (outside_again packed rs is.fair is.held is.packed_held) (or_from _ _ (overlap_again rs is.fair is.held ∙ is.apart) (or_from _ _ (tables_again new old rs alike is.fair ∙ is.clear) (or_from _ _ plain refl)))))

@@ -17,7 +17,7 @@ use Rattle.pl_dyn.specs.declared.tags.Tag.{Tag}
 use Rattle.pl_elf.specs.declared.section.Section.{Section}
 use Rattle.pl_elf.specs.declared.segment.Segment.{Segment}
 use Rattle.pl_hash.specs.Chain.{well_formed}
-use Rattle.pl_hash.specs.declared.table.Table.{Table}
+use Rattle.pl_hash.specs.Table.{HashTable}
 use Rattle.pl_object.specs.FilePart.{loaded}
 use Rattle.pl_object.specs.SymbolClauses.{base_not_zero, check_symbols, defines, duplicate_definer, has_ifunc, hash_incomplete, hash_table, hash_tables, is_ifunc, is_incomplete, is_missed, is_same_version, is_twin, misses_one}
 use Rattle.pl_object.specs.Tables.{has_tag, section_memory}
@@ -69,29 +69,29 @@ hashes_again bytes o at count is =
     let ts = old_tags bytes o in
     let one = table_kept p file o.segments (map (fixed_segment at) o.segments) o.sections (map (fixed_section at) o.sections) ts count DT_HASH false (new_tags at bytes o) (has_moved at DT_HASH ts) (hash_read bytes o at is) in
     let two = table_kept p file o.segments (map (fixed_segment at) o.segments) o.sections (map (fixed_section at) o.sections) ts count DT_GNU_HASH true (new_tags at bytes o) (has_moved at DT_GNU_HASH ts) (gnu_hash_read bytes o at is) in
-    ap (λ (hs : List Table). hs ++ hash_table file (map (fixed_segment at) o.segments) (map (fixed_section at) o.sections) (new_tags at bytes o) count true DT_GNU_HASH) one
-    ∙ ap (λ (hs : List Table). hash_table p o.segments o.sections ts count false DT_HASH ++ hs) two
+    ap (λ (hs : List HashTable). hs ++ hash_table file (map (fixed_segment at) o.segments) (map (fixed_section at) o.sections) (new_tags at bytes o) count true DT_GNU_HASH) one
+    ∙ ap (λ (hs : List HashTable). hash_table p o.segments o.sections ts count false DT_HASH ++ hs) two
 
 -- ---- 21: definers
 
 defines_kept : (at : ℕ) (s : Symbol) → KeepsItsKind at s → defines (fixed_symbol at s) ≡ defines s
 defines_kept at s keeps = definer_kept at s keeps Jump false
 
-missed_kept : (at index : ℕ) (table : Table) (symbols : List Symbol) → All (KeepsItsKind at) symbols → is_missed table index (slice_get (map (fixed_symbol at) symbols) index) ≡ is_missed table index (slice_get symbols index)
+missed_kept : (at index : ℕ) (table : HashTable) (symbols : List Symbol) → All (KeepsItsKind at) symbols → is_missed table index (slice_get (map (fixed_symbol at) symbols) index) ≡ is_missed table index (slice_get symbols index)
 missed_kept at index table symbols keeps = ap (is_missed table index) (slice_get-map (fixed_symbol at) symbols index) ∙ by (slice_get symbols index) refl
   where
     by : (m : Option Symbol) → slice_get symbols index ≡ m → is_missed table index (option_map (fixed_symbol at) m) ≡ is_missed table index m
     by None e = refl
     by (Some s) e = rw (defines_kept at s (got (KeepsItsKind at) symbols index s keeps e), name_kept at s) refl
 
-incomplete_kept : (at : ℕ) (symbols : List Symbol) (table : Table) → All (KeepsItsKind at) symbols → is_incomplete (map (fixed_symbol at) symbols) table ≡ is_incomplete symbols table
+incomplete_kept : (at : ℕ) (symbols : List Symbol) (table : HashTable) → All (KeepsItsKind at) symbols → is_incomplete (map (fixed_symbol at) symbols) table ≡ is_incomplete symbols table
 unfolding is_incomplete misses_one
 incomplete_kept at symbols table keeps =
     ap (λ (b : Bool). not (well_formed table) || b)
     (ap (λ (n : ℕ). list_any (λ index. is_missed table index (slice_get (map (fixed_symbol at) symbols) index)) (range_with_len 0 n)) (length-map symbols (fixed_symbol at))
     ∙ any_same (λ index. is_missed table index (slice_get (map (fixed_symbol at) symbols) index)) (λ index. is_missed table index (slice_get symbols index)) (range_with_len 0 (length symbols)) (λ index. missed_kept at index table symbols keeps))
 
-hashed_kept : (at : ℕ) (tables : List Table) (symbols : List Symbol) → All (KeepsItsKind at) symbols → hash_incomplete tables (map (fixed_symbol at) symbols) ≡ hash_incomplete tables symbols
+hashed_kept : (at : ℕ) (tables : List HashTable) (symbols : List Symbol) → All (KeepsItsKind at) symbols → hash_incomplete tables (map (fixed_symbol at) symbols) ≡ hash_incomplete tables symbols
 unfolding hash_incomplete
 hashed_kept at tables symbols keeps =
     let one : list_any defines (map (fixed_symbol at) symbols) ≡ list_any defines symbols = any_map defines (fixed_symbol at) symbols ∙ any_all (KeepsItsKind at) (λ s. defines (fixed_symbol at s)) defines symbols keeps (defines_kept at) in
@@ -116,7 +116,7 @@ not_above : (ss : List Segment) → base_not_zero true ss ≡ false
 unfolding base_not_zero
 not_above ss = refl
 
-pub symbols_pass : (at : ℕ) (ss ss' : List Segment) (tables : List Table) (known : Option Versions) (symbols : List Symbol) (u : Unit {0}) → All (KeepsItsKind at) symbols
+pub symbols_pass : (at : ℕ) (ss ss' : List Segment) (tables : List HashTable) (known : Option Versions) (symbols : List Symbol) (u : Unit {0}) → All (KeepsItsKind at) symbols
     → check_symbols true ss tables known symbols ≡ Ok u → check_symbols true ss' tables known (map (fixed_symbol at) symbols) ≡ Ok tt
 unfolding check_symbols
 symbols_pass at ss ss' tables known symbols u keeps e =

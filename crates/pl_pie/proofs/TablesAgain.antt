@@ -15,7 +15,7 @@ use Rattle.pl_elf.specs.declared.header.Header.{Header}
 use Rattle.pl_elf.specs.declared.section.Section.{Section}
 use Rattle.pl_elf.specs.declared.segment.Segment.{Segment}
 use Rattle.pl_object.specs.FilePart.{file_window}
-use Rattle.pl_object.specs.TableClauses.{any_lost, any_outside, bad_jmprel, bad_packed, bad_rela, bad_relocation_tables, bad_relr_table, bad_relr_tags, bad_tables, check_tables, is_misplaced, is_other, is_uneven, lacks_tags, meets, misplaced_relr, other_dynsym, parted, tables_overlap}
+use Rattle.pl_object.specs.TableClauses.{any_lost, any_table_outside, bad_jmprel, bad_packed, bad_rela, bad_relocation_tables, bad_relr_table, bad_relr_tags, bad_tables, check_tables, is_misplaced, is_other, is_uneven, lacks_tags, meets, misplaced_relr, other_dynsym, parted, tables_overlap}
 use Rattle.pl_object.specs.Tables.{begins_at, has_kind, has_tag, is_allocated, is_lost, main_windows, relr_memory, tables_memory, value}
 use Rattle.pl_object.specs.declared.object.Object.{Object}
 use Rattle.pl_object.proofs.TabledLaws.{ArePassed}
@@ -207,8 +207,8 @@ module _ (bytes : List ℕ) (o : Object) (at : ℕ) (is : IsAt bytes o at) where
         lost_kept at DT_VERNEED ts secs refl (is.values DT_VERNEED) is.addresses,
       ) refl
 
-  outside_kept : any_outside fixed_segments fixed_sections moved_tags ≡ any_outside ss secs ts
-  unfolding any_outside
+  outside_kept : any_table_outside fixed_segments fixed_sections moved_tags ≡ any_table_outside ss secs ts
+  unfolding any_table_outside
   outside_kept = rw (any_lost_kept, all_held at ss is.stands (tables_memory moved_tags fixed_sections) (tables_memory ts secs) (tables_go bytes o at is)) refl
 
   overlap_kept : tables_overlap (fixed_header at h) fixed_segments fixed_sections moved_tags ≡ tables_overlap h ss secs ts

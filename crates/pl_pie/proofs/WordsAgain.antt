@@ -15,7 +15,7 @@ use Rattle.pl_elf.specs.declared.segment.Segment.{Segment}
 use Rattle.pl_relr.specs.Places as relr
 use Rattle.pl_object.specs.Accepted.{Accepted, tags_of}
 use Rattle.pl_object.specs.FilePart.{file_window, loaded}
-use Rattle.pl_object.specs.PlaceClauses.{is_held, reloc_outside, reloc_overlap, packed_of}
+use Rattle.pl_object.specs.PlaceClauses.{is_held, reloc_outside, reloc_overlap, last_packed}
 use Rattle.pl_object.specs.Relocations.{place, places, packed_relocs, file_word, word_of}
 use Rattle.pl_object.specs.TableClauses.{relr_table}
 use Rattle.pl_object.specs.declared.object.Object.{Object}
@@ -167,7 +167,7 @@ module _ (at : ℕ) (p : List ℕ) (o : Object) (is : Accepted p o) (other : is_
   abbrev last : List Reloc
   last = packed_relocs p o.segments addresses
 
-  same_last : packed_of o.packed o.relocations ≡ last
+  same_last : last_packed o.packed o.relocations ≡ last
   same_last = packed_is p o is other
 
   held : list_any (out_of o.segments) (places last) ≡ false

@@ -11,7 +11,7 @@ use Rattle.pl_sym.specs.declared.constants.TheConstants.{SYMBOL_SIZE}
 use Rattle.pl_sym.specs.declared.symbol.Symbol.{Symbol}
 use Rattle.pl_object.specs.FilePart.{file_window}
 use Rattle.pl_object.specs.Named.{symbols_of}
-use Rattle.pl_object.specs.PlaceClauses.{packed_of}
+use Rattle.pl_object.specs.PlaceClauses.{last_packed}
 use Rattle.pl_object.specs.Relocations.{place}
 use Rattle.pl_object.specs.TableClauses.{meets}
 use Rattle.pl_object.specs.Tables.{is_allocated}
@@ -45,7 +45,7 @@ undefined_words o = map (λ i. (symbols_of o).at + SYMBOL_SIZE * i + VALUE_AT) (
 
 -- the words at the packed places
 unfoldable pub packed_words : Object → List ℕ
-packed_words o = map (λ r. (file_window o.segments (place r)).at) (packed_of o.packed o.relocations)
+packed_words o = map (λ r. (file_window o.segments (place r)).at) (last_packed o.packed o.relocations)
 
 unfoldable pub other_words : Object → List ℕ
 other_words o = section_words o ++ undefined_words o ++ packed_words o

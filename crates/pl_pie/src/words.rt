@@ -1,6 +1,6 @@
 // The words that move with a program's address, beside those in rows of tables.
 ghost use Rattle.std.specs.Prelude.{◌≡◌, ◌+◌, ◌*◌, ◌++◌, ◌<◌, ◌^◌, map, slice_get, IfOk};
-ghost use Rattle.pl_object.specs.PlaceClauses.{packed_of};
+ghost use Rattle.pl_object.specs.PlaceClauses.{last_packed};
 ghost use Rattle.pl_object.specs.Named.{symbols_of};
 ghost use Rattle.pl_object.specs.Tables as tables;
 ghost use Rattle.pl_pie.specs.Words as spec;
@@ -77,8 +77,8 @@ fn undefined_words(alloc: Global, object: &Object) -> Result<Vec<u128>, AllocErr
         .collect(alloc)
 }
 
-fn packed_of(object: &Object) -> &[Reloc]
-    ensures { result.now ≡ packed_of object.now.packed object.now.relocations }
+fn last_packed(object: &Object) -> &[Reloc]
+    ensures { result.now ≡ last_packed object.now.packed object.now.relocations }
 {
     let all = object.relocations.as_slice();
     &all[all.len().saturating_sub(object.packed as usize)..]
@@ -89,7 +89,7 @@ fn packed_words(alloc: Global, object: &Object) -> Result<Vec<u128>, AllocError>
     ensures { IfOk result (λ v. v.items ≡ spec.packed_words object.now) }
 {
     let segments = object.segments.as_slice();
-    packed_of(object)
+    last_packed(object)
         .iter()
         .map(|reloc| file_window(segments, place(reloc)).at())
         .collect(alloc)

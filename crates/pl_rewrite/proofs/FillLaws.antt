@@ -5,7 +5,7 @@ use Rattle.std.specs.List.{All, AllZip, concat}
 use Rattle.std.proofs.lemmas.Bool.{cases_Bool, cases_lt, not-false}
 use Rattle.std.proofs.lemmas.List.{take_more}
 use Rattle.std.proofs.lemmas.List.Elements.{All-head, All-tail}
-use Rattle.pl_base.specs.Memory.{Memory, Piece, is_within, layered, read}
+use Rattle.pl_base.specs.Memory.{Memory, Piece, filled, is_within, layered, read}
 use Rattle.pl_base.specs.Sums.{plus}
 use Rattle.pl_base.specs.Windows.{Window}
 use Rattle.pl_base.proofs.MemoryLaws.{filled-append, read_length, within_is}
@@ -20,19 +20,17 @@ use Rattle.pl_object.specs.declared.object.Object.{Object}
 use Rattle.pl_object.specs.declared.reloc.Reloc.{Reloc}
 use Rattle.pl_sym.specs.declared.symbol.Symbol.{Symbol}
 use Rattle.pl_tls.specs.declared.module.Module.{Module}
-use Rattle.pl_value.specs.Linked.{words, copies, worded, relocated}
+use Rattle.pl_value.specs.Linked.{words, copies, worded, written, relocated}
 use Rattle.pl_value.specs.Targets.{base_of}
 use Rattle.pl_value.specs.declared.meaning.Meaning.{Meaning}
 use Rattle.pl_value.proofs.PlaceLaws.{IsHeld}
-use Rattle.pl_rewrite.specs.Fills.{fill_at, fills, patched, patches}
+use Rattle.pl_rewrite.specs.Fills.{fill_at, fills}
 
 -- ---- words and copies as patches
 
-pub patched_is : (loaded : List LoadedObject) (gs : List Meaning) → patched loaded (patches loaded gs) ≡ relocated (layered (all_pieces loaded)) gs
+pub written_is : (base : Memory) (gs : List Meaning) → filled base (written base gs) ≡ relocated base gs
 unfolding relocated
-patched_is loaded gs =
-    let base = layered (all_pieces loaded) in
-    filled-append base (words gs) (copies (worded base gs) gs)
+written_is base gs = filled-append base (words gs) (copies (worded base gs) gs)
 
 -- ---- a loop over relocations
 

@@ -1,7 +1,6 @@
 -- The bytes at the places of a program.
-use Rattle.std.specs.Prelude.{◌≡◌, ℕ, true, false, List, [], ◌∷◌, ◌++◌, map, filter, Option, Some, None, Result, Ok, Err}
-use Rattle.pl_base.specs.Memory as memory
-use Rattle.pl_base.specs.Memory.{Memory, filled, layered, read}
+use Rattle.std.specs.Prelude.{◌≡◌, ℕ, true, false, List, [], ◌∷◌, map, filter, Option, Some, None, Result, Ok, Err}
+use Rattle.pl_base.specs.Memory.{Memory, layered, read}
 use Rattle.pl_conflict.specs.Conflicts.{conflicts}
 use Rattle.pl_conflict.specs.Prelinked.{Firm, are_set, list_of, objects_of, originals_of, parts_of, slots_of, version_of}
 use Rattle.pl_elf.specs.Kinds.{is_library}
@@ -11,19 +10,10 @@ use Rattle.pl_tls.specs.declared.module.Module.{Module}
 use Rattle.pl_form.specs.Words.{AreFills, has_place}
 use Rattle.pl_form.specs.declared.file.Fill.{Fill}
 use Rattle.pl_image.specs.Image.{all_pieces}
-use Rattle.pl_image.specs.declared.loaded_object.LoadedObject.{LoadedObject}
 use Rattle.pl_object.specs.declared.reloc.Reloc.{Reloc}
-use Rattle.pl_value.specs.Linked.{words, copies, worded, relocated}
+use Rattle.pl_value.specs.Linked.{relocated}
 use Rattle.pl_value.specs.Ordinary.{loaded_objects}
 use Rattle.pl_value.specs.declared.meaning.Meaning.{Meaning}
-
--- what objects load, with patches over it
-abbrev pub patched : List LoadedObject → List memory.Fill → Memory
-patched loaded_objects patches = filled (layered (all_pieces loaded_objects)) patches
-
--- the words of all relocations, then their copies
-abbrev pub patches : List LoadedObject → List Meaning → List memory.Fill
-patches loaded_objects gs = words gs ++ copies (worded (layered (all_pieces loaded_objects)) gs) gs
 
 -- the bytes that a memory has at the place of a relocation of a program, which is loaded at 0
 abbrev pub fill_at : Memory → Reloc → Fill

@@ -14,7 +14,7 @@ use Rattle.pl_dyn.specs.declared.tags.Tag.{Tag}
 use Rattle.pl_dyn.specs.declared.dynamic.Dynamic.{Dynamic}
 use Rattle.pl_sym.specs.declared.symbol.Symbol.{Symbol}
 use Rattle.pl_ver.specs.declared.versions.Versions.{Versions}
-use Rattle.pl_hash.specs.declared.table.Table.{Table}
+use Rattle.pl_hash.specs.Table.{HashTable}
 use Rattle.pl_object.specs.Tables.{has_tag}
 use Rattle.pl_object.specs.SymbolClauses.{hash_table, hash_tables, hash_incomplete, base_not_zero, duplicate_definer, check_symbols}
 use Rattle.pl_object.specs.Reads.{headers, layout, check, object, static_object}
@@ -32,17 +32,17 @@ one_table : (bytes : List ℕ) (ss : List Segment) (sections : List Section) (ta
 unfolding hash_table
 one_table bytes ss sections tags count gnu number =
     elim (cases_Bool (has_tag number tags)) [
-      | inl there ↦ rw there (All-cons (λ (t : Table). t.symbols ≡ count) _ [] refl (All-nil (λ (t : Table). t.symbols ≡ count)))
-      | inr not ↦ rw not (All-nil (λ (t : Table). t.symbols ≡ count))
+      | inl there ↦ rw there (All-cons (λ (t : HashTable). t.symbols ≡ count) _ [] refl (All-nil (λ (t : HashTable). t.symbols ≡ count)))
+      | inr not ↦ rw not (All-nil (λ (t : HashTable). t.symbols ≡ count))
     ]
 
 all_tables : (bytes : List ℕ) (ss : List Segment) (sections : List Section) (tags : List Tag) (count : ℕ) → All (λ t. t.symbols ≡ count) (hash_tables bytes ss sections tags count)
 unfolding hash_tables
 all_tables bytes ss sections tags count =
-    All-append (λ (t : Table). t.symbols ≡ count) _ _ (one_table bytes ss sections tags count false _) (one_table bytes ss sections tags count true _)
+    All-append (λ (t : HashTable). t.symbols ≡ count) _ _ (one_table bytes ss sections tags count false _) (one_table bytes ss sections tags count true _)
 
 -- they refuse nothing that was accepted
-none_incomplete : (program : Bool) (ss : List Segment) (tables : List Table) (versions : Option Versions) (symbols : List Symbol) (u : Unit {0}) → check_symbols program ss tables versions symbols ≡ Ok u → hash_incomplete tables symbols ≡ false
+none_incomplete : (program : Bool) (ss : List Segment) (tables : List HashTable) (versions : Option Versions) (symbols : List Symbol) (u : Unit {0}) → check_symbols program ss tables versions symbols ≡ Ok u → hash_incomplete tables symbols ≡ false
 unfolding check_symbols
 none_incomplete program ss tables versions symbols u e =
     let all = refuse_none ((base_not_zero program ss, Clause 20 0) ∷ (hash_incomplete tables symbols, Clause 21 0) ∷ (duplicate_definer versions program symbols, Clause 22 0) ∷ []) (Ok tt) (ap (λ (r : Result (Unit {0}) Refusal). is_ok r) e) in
@@ -58,7 +58,7 @@ pub record HasTables (o : Object) : Type 0 where
 
 static_tables : (bytes : List ℕ) (h : Header) → IsStatic bytes h → HasTables (static_object (headers bytes h))
 unfolding static_object hash_incomplete
-static_tables bytes h is = record { tables = All-nil (λ (t : Table). t.symbols ≡ 0); hashed = refl }
+static_tables bytes h is = record { tables = All-nil (λ (t : HashTable). t.symbols ≡ 0); hashed = refl }
 
 dynamic_tables : (bytes : List ℕ) (h : Header) (d : Dynamic) (l : Linking) → IsDynamic bytes h d l → HasTables (object (headers bytes h) d l (layout bytes (headers bytes h) d.tags l))
 unfolding object layout check headers

@@ -13,7 +13,7 @@ use Rattle.pl_sym.specs.declared.class.Class.TheVariants.{Jump, Other}
 use Rattle.pl_ver.specs.Fields.{index_of}
 use Rattle.pl_ver.specs.declared.constants.TheConstants.{VER_NDX_LOCAL, VER_NDX_GLOBAL, VERSYM_HIDDEN}
 use Rattle.pl_hash.specs.ChainSymbols.{name_hash, chain_symbols, is_chain_symbol, rest_from}
-use Rattle.pl_hash.specs.declared.table.Table.{Table}
+use Rattle.pl_hash.specs.Table.{HashTable}
 use Rattle.pl_elf.specs.Kinds.{is_program}
 use Rattle.pl_object.specs.declared.object.Object.{Object}
 use Rattle.pl_scope.specs.Matching.{defines, has_version, counts, only, versioned, unversioned, at_index, matching}
@@ -82,7 +82,7 @@ not_both true false never = refl
 not_both false c never = refl
 
 -- where the hash leads to no symbol there is no definer of the name
-pub missed : (o : Object) (t : Table) (name : List ℕ) (version : Option (List ℕ)) → IsTable o t → rest_from None (chain_symbols t (name_hash t name)) ≡ chain_symbols t (name_hash t name) → matching o name Jump version ≡ None
+pub missed : (o : Object) (t : HashTable) (name : List ℕ) (version : Option (List ℕ)) → IsTable o t → rest_from None (chain_symbols t (name_hash t name)) ≡ chain_symbols t (name_hash t name) → matching o name Jump version ≡ None
 unfolding defines
 missed o t name version is none =
     no_match o name version (λ i s e. not_both (is_definer s Jump (is_program o.kind)) (bytes_eq s.name name)

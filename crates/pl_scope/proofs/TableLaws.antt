@@ -9,7 +9,7 @@ use Rattle.pl_sym.specs.declared.symbol.Symbol.{Symbol}
 use Rattle.pl_sym.specs.declared.class.Class.TheVariants.{Jump}
 use Rattle.pl_hash.specs.Chain.{well_formed}
 use Rattle.pl_hash.specs.ChainSymbols.{name_hash, is_chain_symbol}
-use Rattle.pl_hash.specs.declared.table.Table.{Table}
+use Rattle.pl_hash.specs.Table.{HashTable}
 use Rattle.pl_hash.proofs.WholeLaws.{IsWellFormed-from}
 use Rattle.pl_object.specs.SymbolClauses.{defines, is_missed, misses_one, is_incomplete, hash_incomplete}
 use Rattle.pl_object.specs.declared.object.Object.{Object}
@@ -39,11 +39,11 @@ leads_by : (b c : Bool) → (b && not c) ≡ false → b ≡ true → c ≡ true
 leads_by true c e holds = negated c e
 leads_by false c e holds = absurd (false≢true holds)
 
-incomplete_parts : (t : Table) (symbols : List Symbol) → is_incomplete symbols t ≡ false → (well_formed t ≡ true) × (misses_one symbols t ≡ false)
+incomplete_parts : (t : HashTable) (symbols : List Symbol) → is_incomplete symbols t ≡ false → (well_formed t ≡ true) × (misses_one symbols t ≡ false)
 unfolding is_incomplete
 incomplete_parts t symbols e = let parts = or_parts (not (well_formed t)) (misses_one symbols t) e in (negated (well_formed t) parts.0, parts.1)
 
-leads : (t : Table) (symbols : List Symbol) (i : ℕ) (s : Symbol) → misses_one symbols t ≡ false → slice_get symbols i ≡ Some s → is_definer s Jump false ≡ true → is_chain_symbol t (name_hash t s.name) i ≡ true
+leads : (t : HashTable) (symbols : List Symbol) (i : ℕ) (s : Symbol) → misses_one symbols t ≡ false → slice_get symbols i ≡ Some s → is_definer s Jump false ≡ true → is_chain_symbol t (name_hash t s.name) i ≡ true
 unfolding misses_one
 leads t symbols i s none e holds =
     let missed : is_missed t i (slice_get symbols i) ≡ false = none_in_range (λ k. is_missed t k (slice_get symbols k)) 0 (length symbols) i none (omega arith) (omega (arith, slice_get_within symbols i s e)) in
@@ -54,16 +54,16 @@ none_incomplete : (o : Object) → IsFit o → list_any (is_incomplete o.symbols
 unfolding hash_incomplete
 none_incomplete o fit = (or_parts _ _ fit.hashed).1
 
-table_at : (o : Object) (i : ℕ) (t : Table) → IsFit o → slice_get o.hashes i ≡ Some t → IsTable o t
+table_at : (o : Object) (i : ℕ) (t : HashTable) → IsFit o → slice_get o.hashes i ≡ Some t → IsTable o t
 table_at o i t fit e =
     let parts = incomplete_parts t o.symbols (none_at (is_incomplete o.symbols) o.hashes i t (none_incomplete o fit) e) in
     record {
       formed = IsWellFormed-from t parts.0;
-      symbols = all_at (λ (x : Table). x.symbols ≡ length o.symbols) o.hashes i t fit.tables e;
+      symbols = all_at (λ (x : HashTable). x.symbols ≡ length o.symbols) o.hashes i t fit.tables e;
       complete = λ k s at holds. leads t o.symbols k s parts.1 at holds;
     }
 
-pub table_is : (o : Object) (i : ℕ) (t : Table) → IsFit o → i < length o.hashes → t ≡ get_or o.hashes i t → IsTable o t
+pub table_is : (o : Object) (i : ℕ) (t : HashTable) → IsFit o → i < length o.hashes → t ≡ get_or o.hashes i t → IsTable o t
 table_is o i t fit lt is = table_at o i t fit (slice_get_read o.hashes (length o.hashes) i t refl lt is)
 
 -- without tables there are no definers
@@ -71,5 +71,5 @@ pub no_tables : (o : Object) (i : ℕ) (s : Symbol) → IsFit o → o.hashes ≡
 unfolding hash_incomplete
 no_tables o i s fit none e =
     let both : (length o.hashes == 0 && list_any defines o.symbols) ≡ false = (or_parts _ _ fit.hashed).0 in
-    let any : list_any defines o.symbols ≡ false = ap (λ (ts : List Table). length ts == 0 && list_any defines o.symbols) (sym none) ∙ both in
+    let any : list_any defines o.symbols ≡ false = ap (λ (ts : List HashTable). length ts == 0 && list_any defines o.symbols) (sym none) ∙ both in
     none_at defines o.symbols i s any e

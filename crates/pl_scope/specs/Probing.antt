@@ -10,7 +10,7 @@ use Rattle.pl_ver.specs.declared.constants.TheConstants.{VER_NDX_GLOBAL}
 use Rattle.pl_hash.specs.Hash.{gnu}
 use Rattle.pl_hash.specs.Chain.{IsWellFormed}
 use Rattle.pl_hash.specs.ChainSymbols.{chain_symbols, is_chain_symbol, name_hash}
-use Rattle.pl_hash.specs.declared.table.Table.{Table}
+use Rattle.pl_hash.specs.Table.{HashTable}
 use Rattle.pl_elf.specs.Kinds.{is_program}
 use Rattle.pl_object.specs.declared.object.Object.{Object}
 use Rattle.pl_scope.specs.Matching.{defines, has_version, counts}
@@ -40,7 +40,7 @@ passes_at p symbols index = passes p (slice_get symbols index)
 -- ---- the symbols that a hash leads to
 
 -- a table of an object leads to each symbol that defines its name for every reference
-pub record IsTable (o : Object) (t : Table) : Type 0 where
+pub record IsTable (o : Object) (t : HashTable) : Type 0 where
   pub formed : IsWellFormed t
   pub symbols : t.symbols ≡ length o.symbols
   pub complete : (i : ℕ) (s : Symbol) → slice_get o.symbols i ≡ Some s → is_definer s Jump false ≡ true → is_chain_symbol t (name_hash t s.name) i ≡ true

@@ -121,6 +121,7 @@ fn only_definer(object: &Object, name: &[u8], class: Class, hidden: bool) -> Opt
     }
 }
 
+/// For a reference with a version: the definer of the version, else of no version, else, in an object without version words, the only one.
 #[tactic(auto, unfolding(crate::specs::Matching::versioned))]
 fn versioned(object: &Object, name: &[u8], class: Class, version: &[u8]) -> Option<usize>
     ensures value { result ≡ spec.versioned object.now name.now class version.now }

@@ -152,6 +152,7 @@ fn only_picked(probe: &Probe<'_>, pick: Pick<'_>) -> Option<u32>
     }
 }
 
+/// For a reference with a version, of the class of jump slots: the definer of the version, else of no version, else, in an object without version words, the only one. Canonical addresses, which count for other references alone, are looked for by `matching_by_hash`.
 #[tactic(auto, unfolding(crate::specs::Matching::versioned))]
 fn versioned(probe: &Probe<'_>, version: &[u8]) -> Option<u32>
     requires { spec.IsProbe probe.now }

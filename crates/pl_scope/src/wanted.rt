@@ -69,7 +69,7 @@ pub fn hash_in(wanted: &Wanted<'_>, table: &Table) -> u32
     requires { spec.IsWanted wanted.now }
     ensures { result ≡ name_hash table.now wanted.now.name.now }
 {
-    if table.gnu {
+    if table.is_gnu() {
         wanted.gnu
     } else {
         sysv_hash(wanted.name)

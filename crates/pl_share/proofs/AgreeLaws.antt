@@ -20,7 +20,7 @@ use Rattle.pl_slots.specs.Plan as apart
 use Rattle.pl_slots.specs.Plan.{kept_row, keeps, slot_range, slot_at, without_kept}
 use Rattle.pl_slots.proofs.ApartLaws.{with_kept, differ}
 use Rattle.pl_share.specs.declared.given.Given.{Given}
-use Rattle.pl_share.specs.Disjoint.{with_row, disjoint}
+use Rattle.pl_share.specs.Disjoint.{with_disjoint_row, disjoint}
 use Rattle.pl_share.specs.Shared as shared
 use Rattle.pl_share.specs.Shared.{given_to, is_clear, kept, all_kept, without_slot, holes_for, has_slot, at_place, placed, all_placed, slot_of, slots_of, plan_shared}
 use Rattle.pl_share.specs.Laws.{AllAreTogether, TogetherIsApart}
@@ -35,7 +35,7 @@ accepted rows (Some row) = if list_all (is_beside row) rows then Some row else N
 
 abbrev owns_after : List Slot → Range → List Slot → List Want → List (Option Slot)
 owns_after rows region before [] = []
-owns_after rows region before (want ∷ wants) = accepted before (kept_row rows region want) ∷ owns_after rows region (with_row before (kept_row rows region want)) wants
+owns_after rows region before (want ∷ wants) = accepted before (kept_row rows region want) ∷ owns_after rows region (with_disjoint_row before (kept_row rows region want)) wants
 
 accepted_own : (region : Range) (want : Want) (before : List Slot) (found : Option Slot) → MatchOption found ⊤ (λ row. keeps region want row ≡ true) → MatchOption (accepted before found) ⊤ (λ row. keeps region want row ≡ true)
 accepted_own region want before None is = tt
@@ -47,20 +47,20 @@ accepted_own region want before (Some row) is = elim (cases_Bool (list_all (is_b
 after_own : (rows : List Slot) (region : Range) (before : List Slot) (wants : List Want) → AreOwn region wants (owns_after rows region before wants)
 after_own rows region before [] = tt
 after_own rows region before (want ∷ wants) =
-    (accepted_own region want before (kept_row rows region want) (found_own rows region want (kept_row rows region want) refl), after_own rows region (with_row before (kept_row rows region want)) wants)
+    (accepted_own region want before (kept_row rows region want) (found_own rows region want (kept_row rows region want) refl), after_own rows region (with_disjoint_row before (kept_row rows region want)) wants)
 
-with_accepted : (before more : List Slot) (found : Option Slot) → with_row before found ++ more ≡ before ++ with_kept (accepted before found) more
+with_accepted : (before more : List Slot) (found : Option Slot) → with_disjoint_row before found ++ more ≡ before ++ with_kept (accepted before found) more
 with_accepted before more None = refl
 with_accepted before more (Some row) = elim (cases_Bool (list_all (is_beside row) before)) [
   | inl clear ↦ rw clear (append_assoc before (row ∷ []) more)
   | inr meets ↦ rw meets refl
 ]
 
-disjoint_after : (rows : List Slot) (region : Range) (wants : List Want) (before : List Slot) → fold (λ kept want. with_row kept (kept_row rows region want)) before wants ≡ before ++ rows_in (owns_after rows region before wants)
+disjoint_after : (rows : List Slot) (region : Range) (wants : List Want) (before : List Slot) → fold (λ kept want. with_disjoint_row kept (kept_row rows region want)) before wants ≡ before ++ rows_in (owns_after rows region before wants)
 disjoint_after rows region [] before = sym (append-nil before)
 disjoint_after rows region (want ∷ wants) before =
-    disjoint_after rows region wants (with_row before (kept_row rows region want))
-    ∙ with_accepted before (rows_in (owns_after rows region (with_row before (kept_row rows region want)) wants)) (kept_row rows region want)
+    disjoint_after rows region wants (with_disjoint_row before (kept_row rows region want))
+    ∙ with_accepted before (rows_in (owns_after rows region (with_disjoint_row before (kept_row rows region want)) wants)) (kept_row rows region want)
 
 -- ---- the same rows with the positions of their wants
 
@@ -87,21 +87,21 @@ clear_is walks count i [] row together small within = refl
 clear_is walks count i (g ∷ given) row together small within = rw (together i g.want small within.0, clear_is walks count i given row together small within.1) refl
 
 given_accepted : (walks : List (List ℕ)) (count i : ℕ) (given more : List Given) (found : Option Slot) → AllAreTogether walks count → i < count → Within count given
-    → shared.with_row walks given i found ++ more ≡ given ++ numbered_one i (accepted (slots given) found) more
+    → shared.with_clear_row walks given i found ++ more ≡ given ++ numbered_one i (accepted (slots given) found) more
 given_accepted walks count i given more None together small within = refl
 given_accepted walks count i given more (Some row) together small within = elim (cases_Bool (list_all (is_beside row) (slots given))) [
   | inl clear ↦ rw (clear_is walks count i given row together small within, clear) (append_assoc given (given_to i row ∷ []) more)
   | inr meets ↦ rw (clear_is walks count i given row together small within, meets) refl
 ]
 
-slots_accepted : (walks : List (List ℕ)) (count i : ℕ) (given : List Given) (found : Option Slot) → AllAreTogether walks count → i < count → Within count given → slots (shared.with_row walks given i found) ≡ with_row (slots given) found
+slots_accepted : (walks : List (List ℕ)) (count i : ℕ) (given : List Given) (found : Option Slot) → AllAreTogether walks count → i < count → Within count given → slots (shared.with_clear_row walks given i found) ≡ with_disjoint_row (slots given) found
 slots_accepted walks count i given None together small within = refl
 slots_accepted walks count i given (Some row) together small within = elim (cases_Bool (list_all (is_beside row) (slots given))) [
   | inl clear ↦ rw (clear_is walks count i given row together small within, clear) (map-append (λ (g : Given). g.slot) given (given_to i row ∷ []))
   | inr meets ↦ rw (clear_is walks count i given row together small within, meets) refl
 ]
 
-within_accepted : (walks : List (List ℕ)) (count i : ℕ) (given : List Given) (found : Option Slot) → i < count → Within count given → Within count (shared.with_row walks given i found)
+within_accepted : (walks : List (List ℕ)) (count i : ℕ) (given : List Given) (found : Option Slot) → i < count → Within count given → Within count (shared.with_clear_row walks given i found)
 within_accepted walks count i given None small within = within
 within_accepted walks count i given (Some row) small within = elim (cases_Bool (is_clear walks given i row)) [
   | inl clear ↦ rw clear (within_push count i row given small within)
@@ -114,11 +114,11 @@ unfolding all_kept kept
 kept_after rows walks region count [] given i together all within = sym (append-nil given)
 kept_after rows walks region count (want ∷ wants) given i together all within =
     let found : Option Slot = kept_row rows region want in
-    let next : List Given = shared.with_row walks given i found in
+    let next : List Given = shared.with_clear_row walks given i found in
     let small : i < count = omega arith in
     kept_after rows walks region count wants next (i + 1) together (omega arith) (within_accepted walks count i given found small within)
     ∙ (ap (λ (z : List Slot). next ++ numbered (i + 1) (owns_after rows region z wants)) (slots_accepted walks count i given found together small within)
-    ∙ given_accepted walks count i given (numbered (i + 1) (owns_after rows region (with_row (slots given) found) wants)) found together small within)
+    ∙ given_accepted walks count i given (numbered (i + 1) (owns_after rows region (with_disjoint_row (slots given) found) wants)) found together small within)
 
 -- ---- the slots of positions to come
 
@@ -153,7 +153,7 @@ numbered_within count i (Some slot ∷ owns) all = (omega arith, numbered_within
 
 length_owns : (rows : List Slot) (region : Range) (before : List Slot) (wants : List Want) → length (owns_after rows region before wants) ≡ length wants
 length_owns rows region before [] = refl
-length_owns rows region before (want ∷ wants) = ap (λ (n : ℕ). suc n) (length_owns rows region (with_row before (kept_row rows region want)) wants)
+length_owns rows region before (want ∷ wants) = ap (λ (n : ℕ). suc n) (length_owns rows region (with_disjoint_row before (kept_row rows region want)) wants)
 
 -- one slot more, at the end
 slot_other : (given : List Given) (i j : ℕ) (slot : Slot) → (i == j) ≡ false → slot_of (given ++ given_to i slot ∷ []) j ≡ slot_of given j

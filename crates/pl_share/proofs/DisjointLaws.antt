@@ -10,9 +10,9 @@ use Rattle.pl_slots.specs.declared.slot.Slot.{Slot}
 use Rattle.pl_slots.specs.Apart.{is_beside, are_apart}
 use Rattle.pl_slots.specs.Plan.{kept_row}
 use Rattle.pl_slots.proofs.ApartLaws.{apart_with}
-use Rattle.pl_share.specs.Disjoint.{with_row, disjoint}
+use Rattle.pl_share.specs.Disjoint.{with_disjoint_row, disjoint}
 
-with_row_apart : (kept : List Slot) (row : Option Slot) → are_apart kept ≡ true → are_apart (with_row kept row) ≡ true
+with_row_apart : (kept : List Slot) (row : Option Slot) → are_apart kept ≡ true → are_apart (with_disjoint_row kept row) ≡ true
 with_row_apart kept None apart = apart
 with_row_apart kept (Some row) apart =
     elim (cases_Bool (list_all (is_beside row) kept)) [
@@ -20,9 +20,9 @@ with_row_apart kept (Some row) apart =
       | inr meets ↦ rw meets apart
     ]
 
-all_apart : (rows : List Slot) (region : Range) (wants : List Want) (kept : List Slot) → are_apart kept ≡ true → are_apart (fold (λ kept want. with_row kept (kept_row rows region want)) kept wants) ≡ true
+all_apart : (rows : List Slot) (region : Range) (wants : List Want) (kept : List Slot) → are_apart kept ≡ true → are_apart (fold (λ kept want. with_disjoint_row kept (kept_row rows region want)) kept wants) ≡ true
 all_apart rows region [] kept apart = apart
-all_apart rows region (want ∷ wants) kept apart = all_apart rows region wants (with_row kept (kept_row rows region want)) (with_row_apart kept (kept_row rows region want) apart)
+all_apart rows region (want ∷ wants) kept apart = all_apart rows region wants (with_disjoint_row kept (kept_row rows region want)) (with_row_apart kept (kept_row rows region want) apart)
 
 pub disjoint_apart : (rows : List Slot) (wants : List Want) (region : Range) → are_apart (disjoint rows wants region) ≡ true
 unfolding disjoint

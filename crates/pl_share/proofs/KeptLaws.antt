@@ -17,7 +17,7 @@ use Rattle.pl_slots.specs.Apart.{is_beside, are_apart}
 use Rattle.pl_slots.specs.Holes.{region_holes}
 use Rattle.pl_slots.specs.Plan.{plan, next, kept_or_placed, kept_row, kept_holes, keeps, without_kept}
 use Rattle.pl_slots.proofs.ApartLaws.{kept_rows, with_kept, kept_apart, beside_back, Differ, differ}
-use Rattle.pl_share.specs.Disjoint.{with_row, disjoint}
+use Rattle.pl_share.specs.Disjoint.{with_disjoint_row, disjoint}
 use Rattle.pl_share.specs.Laws.{ApartRowsGiveThePlan}
 
 -- ---- a row for each want, or none
@@ -155,10 +155,10 @@ beside_front (x ∷ xs) ys slot apart =
     and_from (is_beside slot x) (list_all (is_beside slot) xs) (beside_back x slot (all_at (is_beside x) xs ys slot parts.0)) (beside_front xs ys slot parts.1)
 
 abbrev all_with : List Slot → Range → List Slot → List Want → List Slot
-all_with rows region kept wants = fold (λ kept want. with_row kept (kept_row rows region want)) kept wants
+all_with rows region kept wants = fold (λ kept want. with_disjoint_row kept (kept_row rows region want)) kept wants
 
 one_apart : (rows : List Slot) (region : Range) (kept more : List Slot) (wants : List Want) (found : Option Slot) → are_apart (kept ++ with_kept found more) ≡ true
-    → ((kept : List Slot) → are_apart (kept ++ more) ≡ true → all_with rows region kept wants ≡ kept ++ more) → all_with rows region (with_row kept found) wants ≡ kept ++ with_kept found more
+    → ((kept : List Slot) → are_apart (kept ++ more) ≡ true → all_with rows region kept wants ≡ kept ++ more) → all_with rows region (with_disjoint_row kept found) wants ≡ kept ++ with_kept found more
 one_apart rows region kept more wants None apart rest = rest kept apart
 one_apart rows region kept more wants (Some row) apart rest =
     rw (beside_front kept more row apart) (rest (kept ++ row ∷ []) (subst (λ (z : List Slot). are_apart z ≡ true) (sym (append_assoc kept (row ∷ []) more)) apart) ∙ append_assoc kept (row ∷ []) more)

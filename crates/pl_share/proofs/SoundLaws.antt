@@ -23,7 +23,7 @@ use Rattle.pl_slots.proofs.HoleLaws.{free_in_region}
 use Rattle.pl_slots.proofs.ServeLaws.{AreSome, are_some, IsKept, is_kept, lowest_fits, lies_where_free, still_free, InRegion}
 use Rattle.pl_share.specs.declared.given.Given.{Given}
 use Rattle.pl_share.specs.Together.{walk_has, are_together}
-use Rattle.pl_share.specs.Shared.{given_to, is_clear, with_row, kept, all_kept, without_slot, holes_for, has_slot, at_place, placed, all_placed, slot_of, slots_of, plan_shared, IsSlotFor, AreSlotsFor, WalksAreApart}
+use Rattle.pl_share.specs.Shared.{given_to, is_clear, with_clear_row, kept, all_kept, without_slot, holes_for, has_slot, at_place, placed, all_placed, slot_of, slots_of, plan_shared, IsSlotFor, AreSlotsFor, WalksAreApart}
 
 abbrev ok_in : {A : Type 0} → A → Result A PlanFault
 ok_in x = Ok x
@@ -82,7 +82,7 @@ pub record SoundBelow (walks : List (List ℕ)) (region : Range) (wants : List W
   pub below : All (λ g. g.want < i) given
 
 kept_sound : (rows : List Slot) (walks : List (List ℕ)) (region : Range) (wants : List Want) (given : List Given) (i : ℕ) (want : Want) (row : Option Slot) → row ≡ kept_row rows region want → i < length wants → ((w : Want) → slice_index_or wants i w ≡ want) → 0 < want.span
-    → SoundBelow walks region wants given i → SoundBelow walks region wants (with_row walks given i row) (i + 1)
+    → SoundBelow walks region wants given i → SoundBelow walks region wants (with_clear_row walks given i row) (i + 1)
 kept_sound rows walks region wants given i want None is small at some s = record { sound = s.sound; below = λ k d lt. let b : (get_or given k d).want < i = s.below k d lt in omega arith }
 kept_sound rows walks region wants given i want (Some row) is small at some s =
     elim (cases_Bool (is_clear walks given i row)) [
@@ -113,11 +113,11 @@ unfolding all_kept kept
 all_kept_sound rows walks region wants front [] given i is long some s = record { sound = s.sound; below = λ k d lt. let b : (get_or given k d).want < i = s.below k d lt in omega arith }
 all_kept_sound rows walks region wants front (want ∷ rest) given i is long some s =
     let small : i < length wants = omega (arith, ap length is, length-append front (want ∷ rest), long) in
-    let step : SoundBelow walks region wants (with_row walks given i (kept_row rows region want)) (i + 1) =
+    let step : SoundBelow walks region wants (with_clear_row walks given i (kept_row rows region want)) (i + 1) =
     kept_sound rows walks region wants given i want (kept_row rows region want) refl small (λ w. head_at wants front rest want w i is long) some.1 s in
-    let later : SoundBelow walks region wants (all_kept rows walks region (with_row walks given i (kept_row rows region want)) (i + 1) rest) ((i + 1) + length rest) =
-    all_kept_sound rows walks region wants (front ++ want ∷ []) rest (with_row walks given i (kept_row rows region want)) (i + 1) (is ∙ sym (append_assoc front (want ∷ []) rest)) (omega (arith, length-append front (want ∷ []), long)) some.2 step in
-    subst (λ (n : ℕ). SoundBelow walks region wants (all_kept rows walks region (with_row walks given i (kept_row rows region want)) (i + 1) rest) n) (omega arith) later
+    let later : SoundBelow walks region wants (all_kept rows walks region (with_clear_row walks given i (kept_row rows region want)) (i + 1) rest) ((i + 1) + length rest) =
+    all_kept_sound rows walks region wants (front ++ want ∷ []) rest (with_clear_row walks given i (kept_row rows region want)) (i + 1) (is ∙ sym (append_assoc front (want ∷ []) rest)) (omega (arith, length-append front (want ∷ []), long)) some.2 step in
+    subst (λ (n : ℕ). SoundBelow walks region wants (all_kept rows walks region (with_clear_row walks given i (kept_row rows region want)) (i + 1) rest) n) (omega arith) later
 
 -- ---- holes beside slots
 

@@ -15,7 +15,7 @@ use Rattle.pl_slots.specs.Holes.{region_holes, without, lowest}
 use Rattle.pl_slots.specs.Plan.{slot_range}
 use Rattle.pl_share.specs.declared.given.Given.{Given}
 use Rattle.pl_share.specs.Together.{are_together, AreFlags}
-use Rattle.pl_share.specs.Shared.{given_to, AreGiven, is_clear, kept, all_kept, holes_for, flagged_holes, with_row, has_slot, at_place, placed, all_placed, slot_of, slots_of, plan_shared}
+use Rattle.pl_share.specs.Shared.{given_to, AreGiven, is_clear, kept, all_kept, holes_for, flagged_holes, with_clear_row, has_slot, at_place, placed, all_placed, slot_of, slots_of, plan_shared}
 
 -- ---- flags
 
@@ -109,14 +109,14 @@ slots_more given n = ap (filter_map (slot_of given)) (range_push n 0) ∙ (map_p
 
 -- a row that is not kept
 pub row_left : (walks : List (List ℕ)) (given : List Given) (i count : ℕ) (flags : List Bool) (row : Slot) (clear : Bool) → AreFlags flags walks i count → All (λ g. g.want < count) given → clear ≡ list_all (λ g. not (slice_index_or flags g.want false) || is_beside row g.slot) given → clear ≡ false
-    → given ≡ with_row walks given i (Some row)
+    → given ≡ with_clear_row walks given i (Some row)
 row_left walks given i count flags row clear m within is meets_one =
     let meets : is_clear walks given i row ≡ false = sym (is ∙ clear_by_flags walks given i count flags row m within) ∙ meets_one in
     rw meets refl
 
 -- a row that is kept
 pub row_kept : (walks : List (List ℕ)) (given after : List Given) (i count : ℕ) (flags : List Bool) (row slot : Slot) (clear : Bool) → AreFlags flags walks i count → All (λ g. g.want < count) given → clear ≡ list_all (λ g. not (slice_index_or flags g.want false) || is_beside row g.slot) given → clear ≡ true
-    → slot ≡ row → after ≡ given ++ given_to i slot ∷ [] → after ≡ with_row walks given i (Some row)
+    → slot ≡ row → after ≡ given ++ given_to i slot ∷ [] → after ≡ with_clear_row walks given i (Some row)
 row_kept walks given after i count flags row slot clear m within is meets_none same push =
     let beside_all : is_clear walks given i row ≡ true = sym (is ∙ clear_by_flags walks given i count flags row m within) ∙ meets_none in
     push ∙ (ap (λ (s : Slot). given ++ given_to i s ∷ []) same ∙ rw beside_all refl)

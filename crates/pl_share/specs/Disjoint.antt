@@ -8,9 +8,9 @@ use Rattle.pl_slots.specs.Apart.{is_beside}
 use Rattle.pl_slots.specs.Plan.{kept_row}
 
 -- a want's row, if there is one, and it meets no row that was kept before
-abbrev pub with_row : List Slot → Option Slot → List Slot
-with_row kept None = kept
-with_row kept (Some row) = if list_all (is_beside row) kept then kept ++ row ∷ [] else kept
+abbrev pub with_disjoint_row : List Slot → Option Slot → List Slot
+with_disjoint_row kept None = kept
+with_disjoint_row kept (Some row) = if list_all (is_beside row) kept then kept ++ row ∷ [] else kept
 
 unfoldable pub disjoint : List Slot → List Want → Range → List Slot
-disjoint rows wants region = fold (λ kept want. with_row kept (kept_row rows region want)) [] wants
+disjoint rows wants region = fold (λ kept want. with_disjoint_row kept (kept_row rows region want)) [] wants

@@ -33,13 +33,13 @@ flagged_holes flags region given = fold (λ holes g. if slice_index_or flags g.w
 abbrev pub is_clear : List (List ℕ) → List Given → ℕ → Slot → Bool
 is_clear walks given i row = list_all (λ g. not (are_together walks i g.want) || is_beside row g.slot) given
 
-abbrev pub with_row : List (List ℕ) → List Given → ℕ → Option Slot → List Given
-with_row walks given i None = given
-with_row walks given i (Some row) = if is_clear walks given i row then given ++ given_to i row ∷ [] else given
+abbrev pub with_clear_row : List (List ℕ) → List Given → ℕ → Option Slot → List Given
+with_clear_row walks given i None = given
+with_clear_row walks given i (Some row) = if is_clear walks given i row then given ++ given_to i row ∷ [] else given
 
 -- the want at a position keeps its row
 unfoldable pub kept : List Slot → List (List ℕ) → Range → List Given → ℕ → Want → List Given
-kept rows walks region given i want = with_row walks given i (kept_row rows region want)
+kept rows walks region given i want = with_clear_row walks given i (kept_row rows region want)
 
 -- so does each want from a position on
 unfoldable pub all_kept : List Slot → List (List ℕ) → Range → List Given → ℕ → List Want → List Given

@@ -26,7 +26,8 @@ fn keep(
     want: &Want,
 ) -> Result<(), AllocError>
     requires { 0 < want.now.align }
-    ensures { OnOk result (kept.new ≡ spec.with_row kept.old (kept_row rows.now region want.now)) }
+    ensures { OnOk result (kept.new
+        ≡ spec.with_disjoint_row kept.old (kept_row rows.now region want.now)) }
 {
     if let Some(row) = kept_row(rows, region, want) {
         if is_beside_all(row, kept.as_slice()) {

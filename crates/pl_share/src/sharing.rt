@@ -68,8 +68,8 @@ fn keep_row(
     requires within { position < count }
     requires given { AreGiven given.old count }
     requires end { row.now.start + row.now.span < 2 ^ 64 }
-    ensures kept { OnOk result (given.new ≡ spec.with_row asked.now.walks.now given.old position
-        (Some row.now)) }
+    ensures kept { OnOk result (given.new ≡ spec.with_clear_row asked.now.walks.now given.old
+        position (Some row.now)) }
     ensures given { OnOk result (AreGiven given.new count) }
 {
     let flags = flags_of(alloc, asked.walks, count, position)?;
@@ -154,7 +154,7 @@ fn place_in(
     Ok(())
 }
 
-/// Gives a want that keeps no row its place.
+/// Gives a want its place beside the slots of all that some walk holds with it: those are flagged. One that keeps a row has it beside these already (`keep_row`).
 fn place(
     alloc: Global,
     asked: &Asked<'_>,

@@ -1,5 +1,5 @@
 -- The memory that relocations make of another: the words, then the copies.
-use Rattle.std.specs.Prelude.{ℕ, Bool, List, Option, Some, None}
+use Rattle.std.specs.Prelude.{ℕ, Bool, true, false, List, ◌++◌, Option, Some, None}
 use Rattle.std.specs.List.{filter_map}
 use Rattle.pl_base.specs.Bytes.{bytes64}
 use Rattle.pl_base.specs.Memory.{Memory, Fill, filled, read, is_within}
@@ -23,6 +23,12 @@ copy_of memory start (Put word) = None
 copy_of memory start (Copy member from size) = Some (record { start = start; bytes = read memory from size })
 copy_of memory start Nothing = None
 
+-- whether bytes are copied to a place
+abbrev pub is_copy : Word → Bool
+is_copy (Put word) = false
+is_copy (Copy member from size) = true
+is_copy Nothing = false
+
 unfoldable pub words : List Meaning → List Fill
 words gs = filter_map (λ g. put_of g.start g.word) gs
 
@@ -32,6 +38,10 @@ copies memory gs = filter_map (λ g. copy_of memory g.start g.word) gs
 -- a memory with the words in it
 abbrev pub worded : Memory → List Meaning → Memory
 worded memory gs = filled memory (words gs)
+
+-- what is written over a memory: the words, then the copies
+abbrev pub written : Memory → List Meaning → List Fill
+written memory gs = words gs ++ copies (worded memory gs) gs
 
 -- with the words, and with the copies of bytes as they stand after the words
 unfoldable pub relocated : Memory → List Meaning → Memory

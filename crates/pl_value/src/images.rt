@@ -1,16 +1,16 @@
 // The ordinary image of a scope.
 ghost use Rattle.std.specs.Prelude.{◌≡◌, ◌<◌, length, IfOk};
-ghost use Rattle.pl_base.specs.Memory.{layered, filled};
-ghost use Rattle.pl_image.specs.Image.{all_pieces, AreLoaded};
+ghost use Rattle.std.specs.List.{list_any};
+ghost use Rattle.pl_base.specs.Memory.{layered};
+ghost use Rattle.pl_image.specs.Image.{all_pieces, patched, AreLoaded};
 ghost use Rattle.pl_scope.specs.Scope.{objects};
 ghost use Rattle.pl_value.specs.Linked as linked;
 ghost use Rattle.pl_value.specs.Ordinary as spec;
 
 use crate::collecting::meanings;
-use crate::reading::read;
 use crate::targets::base_of;
 use crate::{Meaning, OrdinaryFault, Places, Word};
-use pl_image::{Image, LoadedObject, Parts, Patch, load_object};
+use pl_image::{Image, LoadedObject, Parts, Patch, Patched, load_object};
 use pl_scope::Scope;
 use pl_tls::Module;
 use std::alloc::{AllocError, Global};
@@ -70,18 +70,16 @@ fn words(alloc: Global, meanings: &[Meaning]) -> Result<Vec<Patch>, AllocError>
 /// The bytes for the place of a copy, where there are any, as they stand after the words.
 fn copy_of(
     alloc: Global,
-    loaded: &[LoadedObject<'_>],
-    words: &[Patch],
+    worded: &Patched<'_, '_>,
     meaning: &Meaning,
 ) -> Result<Option<Patch>, AllocError>
-    requires { AreLoaded loaded.now }
-    ensures { IfOk result (λ patch. patch ≡ linked.copy_of
-        (filled (layered (all_pieces loaded.now)) words.now) meaning.now.start meaning.now.word) }
+    ensures { IfOk result (λ patch. patch
+        ≡ linked.copy_of (patched worded.now) meaning.now.start meaning.now.word) }
 {
     match meaning.word {
         Word::Copy { from, bytes, .. } => Ok(Some(Patch {
             address: meaning.start,
-            bytes: read(alloc, loaded, words, from, bytes)?,
+            bytes: worded.read(alloc, from, bytes)?,
         })),
         _ => Ok(None),
     }
@@ -91,26 +89,57 @@ fn copy_of(
 #[tactic(auto, unfolding(crate::specs::Linked::copies))]
 fn copies(
     alloc: Global,
-    loaded: &[LoadedObject<'_>],
-    words: &[Patch],
+    worded: &Patched<'_, '_>,
     meanings: &[Meaning],
 ) -> Result<Vec<Patch>, AllocError>
-    requires { AreLoaded loaded.now }
-    ensures { IfOk result (λ v. v.items ≡ linked.copies
-        (filled (layered (all_pieces loaded.now)) words.now) meanings.now) }
+    ensures { IfOk result (λ v. v.items ≡ linked.copies (patched worded.now) meanings.now) }
 {
     let mut patches = Vec::new(alloc);
     for meaning in meanings {
-        if let Some(patch) = copy_of(alloc, loaded, words, meaning)? {
+        if let Some(patch) = copy_of(alloc, worded, meaning)? {
             patches.push(patch)?;
         }
     }
     Ok(patches)
 }
 
+fn is_copy(meaning: &Meaning) -> bool
+    ensures { result ≡ linked.is_copy meaning.now.word }
+{
+    matches!(meaning.word, Word::Copy { .. })
+}
+
+/// Whether bytes are copied to one of the places.
+fn any_copies(meanings: &[Meaning]) -> bool
+    ensures { result ≡ list_any (λ g. linked.is_copy g.word) meanings.now }
+{
+    meanings.iter().any(|meaning| is_copy(meaning))
+}
+
+/// What relocations write over loaded objects: their words, then their copies, each in the order of the relocations. The time grows as `n log n`, and as what is copied.
+pub fn patches(
+    alloc: Global,
+    loaded: &[LoadedObject<'_>],
+    meanings: &[Meaning],
+) -> Result<Vec<Patch>, AllocError>
+    requires { AreLoaded loaded.now }
+    ensures { IfOk result (λ v. v.items
+        ≡ linked.written (layered (all_pieces loaded.now)) meanings.now) }
+{
+    let words = words(alloc, meanings)?;
+    if !any_copies(meanings) {
+        return Ok(words);
+    }
+    let worded = Patched::new(alloc, loaded, words)?;
+    let mut copies = copies(alloc, &worded, meanings)?;
+    let mut patches = worded.into_patches();
+    patches.append(&mut copies)?;
+    Ok(patches)
+}
+
 /// The image from which a program starts: its objects at their places, then each relocation's word, then each copy from the bytes as they stand after all words; a byte of a link table is shown as 0 (System V gABI chapter 5, "Program Loading"; x86-64 psABI, "Relocation"). `parts` are the files of the members. Else the first link refusal in scope order, in an object those of DT_RELA before those of DT_JMPREL, or NoMemory.
 ///
-/// The conditions are those of `value` for every relocation, one part a member, and that the PT_LOADs have no address in common at the places and end there within the limit of addresses. The time grows as the number of words for each copy.
+/// The conditions are those of `value` for every relocation, one part a member, and that the PT_LOADs have no address in common at the places and end there within the limit of addresses. The time grows as `n log n`, and as what is copied.
 pub fn ordinary<'a>(
     alloc: Global,
     scope: &Scope<'a>,
@@ -128,8 +157,6 @@ pub fn ordinary<'a>(
 {
     let meanings = meanings(alloc, scope, places, tls)?;
     let loaded = load(alloc, scope, parts, places)?;
-    let mut patches = words(alloc, meanings.as_slice())?;
-    let mut copies = copies(alloc, &loaded, &patches, meanings.as_slice())?;
-    patches.append(&mut copies)?;
+    let patches = patches(alloc, &loaded, meanings.as_slice())?;
     Ok(Image::new(alloc, loaded, patches)?)
 }

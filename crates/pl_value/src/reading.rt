@@ -1,42 +1,12 @@
 // Bytes of a memory in which words stand.
 ghost use Rattle.std.specs.Prelude.{◌≡◌, ◌≤◌, ◌<◌, ◌⊎◌, ◌+◌, ◌-◌, length, slice_set, IfOk};
 ghost use Rattle.std.specs.Bool.{OnFalse};
-ghost use Rattle.std.specs.Option.{unwrap_or};
 ghost use Rattle.pl_base.specs.Memory as spec;
 ghost use Rattle.pl_image.specs.Image.{all_pieces, AreLoaded};
 
 use pl_base::end;
-use pl_image::{LoadedObject, Patch, loaded_byte};
+use pl_image::{LoadedObject, Patch, read_loaded};
 use std::alloc::{AllocError, Global};
-
-/// The byte that objects load at so many addresses after one, 0 where there is none.
-#[tactic(auto, using(crate::proofs::LoadedLaws::none_above))]
-fn byte_after(loaded: &[LoadedObject<'_>], from: u64, distance: u64) -> u8
-    requires { AreLoaded loaded.now }
-    ensures { result ≡ unwrap_or (spec.layered (all_pieces loaded.now) (from + distance)) 0 }
-{
-    match from.checked_add(distance) {
-        None => 0,
-        Some(address) => loaded_byte(loaded, address).unwrap_or(0),
-    }
-}
-
-/// The bytes that objects load from an address on, 0 where there is none.
-#[tactic(auto, unfolding(pl_base::specs::Memory::read))]
-fn read_loaded(
-    alloc: Global,
-    loaded: &[LoadedObject<'_>],
-    from: u64,
-    size: u64,
-) -> Result<Vec<u8>, AllocError>
-    requires { AreLoaded loaded.now }
-    ensures { IfOk result (λ v. v.items ≡ spec.read (spec.layered (all_pieces loaded.now)) from
-        size) }
-{
-    (0..size)
-        .map(|distance| byte_after(loaded, from, distance))
-        .collect(alloc)
-}
 
 /// Whether a patch may have bytes for so many addresses from one on.
 #[tactic(auto, using(crate::proofs::ReadLaws::read_far))]

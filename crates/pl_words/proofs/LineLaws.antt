@@ -12,7 +12,7 @@ use Rattle.clap.specs.declared.error.kind.ErrorKind.TheVariants.{OutOfMemory}
 use Rattle.clap.specs.declared.parser.matches.ArgMatches.{ArgMatches}
 use Rattle.clap.proofs.OnLiterals.{clap_on_literals}
 use Rattle.clap.proofs.WalkLemmas.{both}
-use Rattle.pl_words.specs.Line.{are_simple, bare, fault_of_kind, flag, is_memory, lettered, line, loading, names, one_file, option, others, parsed, prelinking, unless_refused, with_rules}
+use Rattle.pl_words.specs.Line.{are_simple, bare, fault_of_kind, flag, is_memory, lettered, line, loading, one_file, option, others, parsed, positional_names, prelinking, unless_refused, with_rules}
 use Rattle.pl_words.specs.declared.fault.WordsFault.{WordsFault}
 use Rattle.pl_words.specs.declared.fault.WordsFault.TheVariants.{Usage, NoMemory}
 
@@ -65,13 +65,13 @@ unfolding lettered option one_file
 simple_one_file = refl
 
 pub simple_others : are_simple others ≡ true
-unfolding flag lettered names option others
+unfolding flag lettered positional_names option others
 simple_others = refl
 
 -- ---- a parse
 
 simple_line : is_simple_and_free line ≡ true
-unfolding clap_on_literals bare flag lettered line loading names one_file option others prelinking
+unfolding clap_on_literals bare flag lettered line loading positional_names one_file option others prelinking
 simple_line = refl
 
 pub parse_taken : (a : App) (words : List (List _)) (m : ArgMatches) → a ≡ line → (is_simple_and_free a ≡ true → fault_of a words ≡ []) → HasMatchesOf a words m

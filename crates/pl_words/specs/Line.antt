@@ -31,8 +31,8 @@ unfoldable pub lettered : ℕ → Rule → Rule
 lettered letter rule = record rule { short = Some letter }
 
 -- `NAME..`: the words that are neither option nor flag nor value
-unfoldable pub names : Rule
-names = record (new_rule (codes "names")) { action = Some Append }
+unfoldable pub positional_names : Rule
+positional_names = record (new_rule (codes "names")) { action = Some Append }
 
 -- ---- all that may stand in the line
 
@@ -69,7 +69,7 @@ others =
     lettered 112 (flag (codes "print-cache"))
     ∷ option (codes "demo")
     ∷ flag (codes "weave")
-    ∷ names
+    ∷ positional_names
     ∷ []
 
 -- ---- the line

@@ -13,6 +13,7 @@ mod words;
 
 pub use command::{AllOptions, Command, Policy};
 pub use fault::WordsFault;
+pub use numbers::{decimal, range};
 pub use status::Status;
-pub use values::REGION;
+pub use values::{REGION, policy_in};
 pub use words::read_words;

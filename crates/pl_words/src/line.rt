@@ -34,9 +34,9 @@ fn lettered<'a>(letter: char, arg: Arg<'a>) -> Arg<'a>
 }
 
 /// The words that are neither option nor flag nor value.
-#[tactic(auto, unfolding(crate::specs::Line::names))]
-fn names<'a>(alloc: Global) -> Arg<'a>
-    ensures { rule_of result ≡ spec.names }
+#[tactic(auto, unfolding(crate::specs::Line::positional_names))]
+fn positional_names<'a>(alloc: Global) -> Arg<'a>
+    ensures { rule_of result ≡ spec.positional_names }
 {
     Arg::new(alloc, "names").action(ArgAction::Append)
 }
@@ -92,7 +92,7 @@ fn others<'a>(alloc: Global) -> Result<Vec<Arg<'a>>, AllocError>
     let print_cache = lettered('p', flag(alloc, "print-cache"));
     let demo = option(alloc, "demo");
     let weave = flag(alloc, "weave");
-    Ok(Vec::from_array(alloc, [print_cache, demo, weave, names(alloc)])?)
+    Ok(Vec::from_array(alloc, [print_cache, demo, weave, positional_names(alloc)])?)
 }
 
 /// A command line with more that may stand in it.

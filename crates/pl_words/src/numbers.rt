@@ -2,8 +2,6 @@
 ghost use Rattle.std.specs.Prelude.{◌≡◌, ◌≤◌, true, nat_lt};
 ghost use Rattle.std.specs.List.{list_all};
 ghost use Rattle.std.specs.Char.{digit_value};
-ghost use Rattle.pl_base.specs.Answers.{Answers};
-ghost use Rattle.pl_words.specs.Line.{is_memory};
 ghost use Rattle.pl_words.specs.Numbers as spec;
 
 use crate::WordsFault;
@@ -51,10 +49,10 @@ fn is_hexadecimal(text: &str) -> bool
     !text.is_empty() && text.len() <= 16 && has_hexadecimal_digits(text.as_bytes())
 }
 
-/// The number that decimal digits alone spell, at least one. Zeros may stand first. It has at most 64 bits.
+/// The number that decimal digits alone spell, at least one. Zeros may stand first. It has at most 64 bits. Of another text it is Usage. It takes no memory.
 #[tactic(auto, using(crate::proofs::NumberLaws::parsed_decimal), unfolding(crate::specs::Numbers::decimal))]
 pub fn decimal(text: &str) -> Result<u64, WordsFault>
-    ensures { Answers is_memory result (spec.decimal text.now) }
+    ensures { result ≡ spec.decimal text.now }
 {
     if !is_decimal(text) {
         return Err(WordsFault::Usage);
@@ -65,10 +63,10 @@ pub fn decimal(text: &str) -> Result<u64, WordsFault>
     }
 }
 
-/// The number that 1 to 16 lower-case hexadecimal digits spell.
+/// The number that 1 to 16 lower-case hexadecimal digits spell; Usage of another text.
 #[tactic(auto, using(crate::proofs::NumberLaws::parsed_hexadecimal), unfolding(crate::specs::Numbers::hexadecimal))]
 fn hexadecimal(text: &str) -> Result<u64, WordsFault>
-    ensures { Answers is_memory result (spec.hexadecimal text.now) }
+    ensures { result ≡ spec.hexadecimal text.now }
 {
     if !is_hexadecimal(text) {
         return Err(WordsFault::Usage);
@@ -90,10 +88,10 @@ fn is_range(range: Range) -> bool
         && range.end <= ADDRESS_LIMIT
 }
 
-/// The range `S-E`.
+/// The range of addresses that a text `S-E` spells: two hexadecimal numbers of whole pages, the first below the second, which is at most 2^47. Of another text it is Usage. It takes no memory.
 #[tactic(auto, unfolding(crate::specs::Numbers::range))]
 pub fn range(text: &str) -> Result<Range, WordsFault>
-    ensures { Answers is_memory result (spec.range text.now) }
+    ensures { result ≡ spec.range text.now }
 {
     let Some((start, end)) = text.split_once('-') else {
         return Err(WordsFault::Usage);

@@ -34,7 +34,7 @@ pub fn name_of(alloc: Global, matches: &ArgMatches<'_>, option: &str) -> Result<
 }
 
 /// The number that is an option's value.
-#[tactic(auto, unfolding(crate::specs::Values::number_of))]
+#[tactic(auto, using(crate::proofs::AnswerLaws::answers_as_meant), unfolding(crate::specs::Values::number_of))]
 pub fn number_of(matches: &ArgMatches<'_>, option: &str) -> Result<u64, WordsFault>
     ensures { Answers is_memory result (spec.number_of (rows_of (found_of matches.now))
         option.now) }
@@ -43,7 +43,7 @@ pub fn number_of(matches: &ArgMatches<'_>, option: &str) -> Result<u64, WordsFau
 }
 
 /// The addresses that no library may get, if any.
-#[tactic(auto, unfolding(crate::specs::Values::busy))]
+#[tactic(auto, using(crate::proofs::AnswerLaws::answers_as_meant), unfolding(crate::specs::Values::busy))]
 pub fn busy(matches: &ArgMatches<'_>) -> Result<Option<Range>, WordsFault>
     ensures { Answers is_memory result (spec.busy (rows_of (found_of matches.now))) }
 {
@@ -54,7 +54,7 @@ pub fn busy(matches: &ArgMatches<'_>) -> Result<Option<Range>, WordsFault>
 }
 
 /// The addresses from which slots are given.
-#[tactic(auto, unfolding(crate::specs::Values::region))]
+#[tactic(auto, using(crate::proofs::AnswerLaws::answers_as_meant), unfolding(crate::specs::Values::region))]
 pub fn region(matches: &ArgMatches<'_>) -> Result<Range, WordsFault>
     ensures { Answers is_memory result (spec.region (rows_of (found_of matches.now))) }
 {
@@ -75,7 +75,7 @@ const SEEDED: &str = "seeded:";
 
 #[tactic(auto, unfolding(crate::specs::Values::seeded))]
 fn seeded(text: &str) -> Result<Policy, WordsFault>
-    ensures { Answers is_memory result (spec.seeded text.now) }
+    ensures { result ≡ spec.seeded text.now }
 {
     match text.strip_prefix(SEEDED) {
         None => Err(WordsFault::Usage),
@@ -83,9 +83,10 @@ fn seeded(text: &str) -> Result<Policy, WordsFault>
     }
 }
 
+/// The policy that a text spells: `lowest`, `highest` or `seeded:N` with a decimal number N. Of another text it is Usage. It takes no memory.
 #[tactic(auto, unfolding(crate::specs::Values::policy_in))]
-fn policy_in(text: &str) -> Result<Policy, WordsFault>
-    ensures { Answers is_memory result (spec.policy_in text.now) }
+pub fn policy_in(text: &str) -> Result<Policy, WordsFault>
+    ensures { result ≡ spec.policy_in text.now }
 {
     match text {
         "lowest" => Ok(Policy::Lowest),
@@ -95,7 +96,7 @@ fn policy_in(text: &str) -> Result<Policy, WordsFault>
 }
 
 /// Which of the addresses that fit a library gets.
-#[tactic(auto, unfolding(crate::specs::Values::policy))]
+#[tactic(auto, using(crate::proofs::AnswerLaws::answers_as_meant), unfolding(crate::specs::Values::policy))]
 pub fn policy(matches: &ArgMatches<'_>) -> Result<Policy, WordsFault>
     ensures { Answers is_memory result (spec.policy (rows_of (found_of matches.now))) }
 {

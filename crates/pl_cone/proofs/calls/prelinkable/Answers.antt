@@ -1,6 +1,6 @@
 use Rattle.std.proofs.Common.{List, ℕ, Err, sym, ap, ◌∙◌}
 use Rattle.pl_cone.specs.Skipped.{skip_of}
-use Rattle.pl_cone.specs.Skips.{is_memory}
+use Rattle.pl_cone.specs.Skips.{skip_is_memory}
 use Rattle.pl_cone.specs.Taken.{files_in}
 use Rattle.pl_cone.specs.declared.skip.Skip.TheVariants.{NotThere}
 use Rattle.pl_cone.proofs.CallLaws.{absent_skip, answers_meant}
@@ -19,4 +19,4 @@ pub returns : goal.returns
 returns c = λ region taken.
     let file = c.in-Some.ensures in
     let meant = named_skip region c.in_ok-table.table c.args.files.now c.in-Some.row file.0 c.args.name.now taken c.in_ok-table.ensures.files c.in_ok-table.ensures.table file.1 file.2 in
-    answers_meant is_memory c.cause_at.result (skip_of (files_in c.args.files.now) region c.args.name.now) (meant ∙ sym c.cause_at.ensures)
+    answers_meant skip_is_memory c.cause_at.result (skip_of (files_in c.args.files.now) region c.args.name.now) (meant ∙ sym c.cause_at.ensures)

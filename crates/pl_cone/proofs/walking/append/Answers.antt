@@ -3,7 +3,7 @@ use Rattle.std.proofs.lemmas.List.{get_or_default}
 use Rattle.std.proofs.lemmas.Result.{err_from_is_err_and}
 use Rattle.pl_base.proofs.RunLaws.{run_more, run_fails, run_done}
 use Rattle.pl_cone.specs.Needs.{added}
-use Rattle.pl_cone.specs.Skips.{is_memory}
+use Rattle.pl_cone.specs.Skips.{skip_is_memory}
 use Rattle.pl_cone.proofs.WalkingLaws.{more_than}
 use Rattle.pl_cone.proofs.walking.append.Goals as goal
 
@@ -12,7 +12,7 @@ returns-in_err-add-clause-names c =
     let p = err_from_is_err_and c.from_residual.result c.from_residual.ensures.1 in
     let i = c.loop-number.number-index in
     let x = get_or c.args.needed.now i 0 in
-    rw (p.1, p.2) (run_fails is_memory (added c.args.needs.now) _ c.args.needed.now i x _ _ c.loop-number-test.true (get_or_default c.args.needed.now i 0 x c.loop-number-test.true) c.in_err-add.ensures.names c.loop-number.invariant.so_far)
+    rw (p.1, p.2) (run_fails skip_is_memory (added c.args.needs.now) _ c.args.needed.now i x _ _ c.loop-number-test.true (get_or_default c.args.needed.now i 0 x c.loop-number-test.true) c.in_err-add.ensures.names c.loop-number.invariant.so_far)
 
 pub loop-number-preserved : goal.loop-number-preserved
 loop-number-preserved c =

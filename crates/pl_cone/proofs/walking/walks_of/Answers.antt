@@ -1,7 +1,7 @@
 use Rattle.std.proofs.Common.{◌≡◌, ℕ, List, Result, subst, arith}
 use Rattle.std.specs.Prelude.{IfErr, IfOk, Err}
 use Rattle.pl_base.specs.Answers.{Answers}
-use Rattle.pl_cone.specs.Skips.{is_memory}
+use Rattle.pl_cone.specs.Skips.{skip_is_memory}
 use Rattle.pl_cone.specs.Table.{IsWalkAt, walk_at}
 use Rattle.pl_cone.specs.declared.taken.Taken.{Taken}
 use Rattle.pl_cone.proofs.ColumnLaws.{first_more}
@@ -18,5 +18,5 @@ loop-row-preserved c =
       ready = c.walk_of-walk.ensures.walking;
       walks = first_more c.args.files.now c.loop-row.row r c.loop-row.walks c.add_walk.new.walks
           (subst (λ (ts : List Taken). IfOk r (IsWalkAt ts c.loop-row.row)) c.in_ok-needs.ensures.files c.walk_of-walk.ensures.ok)
-          (subst (λ (ts : List Taken). IfErr r (λ skip. Answers is_memory (Err skip) (walk_at ts c.loop-row.row))) c.in_ok-needs.ensures.files c.walk_of-walk.ensures.err) c.in_ok-add_walk.ensures c.loop-row.invariant.walks;
+          (subst (λ (ts : List Taken). IfErr r (λ skip. Answers skip_is_memory (Err skip) (walk_at ts c.loop-row.row))) c.in_ok-needs.ensures.files c.walk_of-walk.ensures.err) c.in_ok-add_walk.ensures c.loop-row.invariant.walks;
     }

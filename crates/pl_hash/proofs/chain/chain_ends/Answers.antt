@@ -10,12 +10,12 @@ returns-in_default c = sym (walk_ended c.args.table.now _ _ (rw c.in_default.is 
 pub returns-then-not-is_linked : goal.returns-then-not-is_linked
 unfolding chain
 returns-then-not-is_linked c =
-    sym (walk_left c.args.table.now _ _ c.in-Some.index _ c.loop-test.true (sym c.if-not-is_linked.ensures.value) (rw c.in-Some.is at c.loop.invariant))
+    sym (walk_left c.args.table.now _ _ c.in-Some.index _ (rw c.symbols-end.ensures at c.loop-test.true) (sym c.if-not-is_linked.ensures.value) (rw c.in-Some.is at c.loop.invariant))
 
 pub loop-preserved : goal.loop-preserved
 loop-preserved c =
-    rw c.following-at.ensures (walk_more c.args.table.now _ _ c.in-Some.index _ c.loop-test.true (sym c.if-not-is_linked.ensures.value) (rw c.in-Some.is at c.loop.invariant))
+    rw c.following-at.ensures (walk_more c.args.table.now _ _ c.in-Some.index _ (rw c.symbols-end.ensures at c.loop-test.true) (sym c.if-not-is_linked.ensures.value) (rw c.in-Some.is at c.loop.invariant))
 
 pub returns : goal.returns
 unfolding chain
-returns c = flipped _ _ c.is_none.ensures ∙ sym (walk_over c.args.table.now _ _ c.loop.at c.loop-test.false) ∙ c.loop.invariant
+returns c = flipped _ _ c.is_none.ensures ∙ sym (walk_over c.args.table.now _ _ c.loop.at (rw c.symbols-end.ensures at c.loop-test.false)) ∙ c.loop.invariant

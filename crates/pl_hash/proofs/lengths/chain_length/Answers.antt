@@ -39,5 +39,5 @@ pub returns : goal.returns
 returns c =
     let t = c.args.table.now in
     let same : c.loop-passed.passed ≡ t.symbols = omega (arith, c.loop-passed-test.false) in
-    subst (λ (n : ℕ). IsLength t c.args.start (Some n)) same
+    subst (λ (n : ℕ). IsLength t c.args.start (Some n)) (same ∙ sym c.symbols.ensures)
     (length_whole t c.args.start c.loop-passed.passed c.loop-passed.at (omega (arith, same)) (sym c.is_some.ensures ∙ c.if-is_some.false) c.loop-passed.invariant)

@@ -12,7 +12,6 @@ returns-in_err-meanings-clause-exact c =
 
 pub returns-clause-exact : goal.returns-clause-exact
 returns-clause-exact c =
-    let patches = patches_linked c.in_ok-new.field-0 c.in_ok-loaded.loaded.items _ c.in_ok-meanings.meanings _ _ _ c.in_ok-patches.patches.items _ c.in_ok-copies.copies.items
-    c.in_ok-new.ensures c.in_ok-append.ensures.items c.in_ok-patches.ensures c.in_ok-copies.ensures c.deref.ensures.value c.deref-2.ensures.value c.as_slice.ensures c.as_slice-2.ensures in
+    let patches = patches_linked c.in_ok-new.field-0 c.in_ok-loaded.loaded.items _ c.in_ok-meanings.meanings _ c.in_ok-patches.patches.items c.in_ok-new.ensures c.in_ok-patches.ensures c.deref.ensures.value c.as_slice.ensures in
     image_ordinary (objects c.args.scope.now) c.args.parts.now c.args.places.now c.args.tls.now c.in_ok-meanings.meanings c.in_ok-new.field-0 c.in_ok-meanings.ensures
     (ap (λ (i : Image). i.objects) c.in_ok-new.ensures ∙ c.in_ok-loaded.ensures.value) patches

@@ -11,4 +11,4 @@ pub returns : goal.returns
 unfolding others
 returns c =
     ap (map rule_of) c.in_ok-from_array.ensures.items
-    ∙ next (c.lettered-print_cache.ensures ∙ ap (lettered 112) c.flag.ensures) (next c.option-demo.ensures (next c.flag-weave.ensures (next c.names.ensures refl)))
+    ∙ next (c.lettered-print_cache.ensures ∙ ap (lettered 112) c.flag.ensures) (next c.option-demo.ensures (next c.flag-weave.ensures (next c.positional_names.ensures refl)))

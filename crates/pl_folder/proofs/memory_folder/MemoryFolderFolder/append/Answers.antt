@@ -7,7 +7,7 @@ use Rattle.pl_folder.specs.Tables.{table_files}
 use Rattle.pl_folder.proofs.RecordLemmas.{disk_after, kept_after, append_kept}
 use Rattle.std.specs.Prelude.{is_some}
 use Rattle.std.specs.FinMap.{get}
-use Rattle.pl_folder.specs.Effects.{appended}
+use Rattle.pl_folder.specs.Effects.{files_after_append}
 use Rattle.pl_folder.specs.declared.fault.FolderFault.TheVariants.{Failed}
 use Rattle.pl_folder.proofs.CallLaws.{passed}
 use Rattle.pl_folder.proofs.TableLemmas.{none_more}
@@ -36,7 +36,7 @@ returns-clause-calls c = record {
   tells = refl;
   records = refl;
   referent = refl;
-  files = λ told. c.in_ok-append.ensures.ok ∙ ap (λ t. appended (table_files t) c.args.name.now c.args.bytes.now) c.in_ok-call.ensures.same.0;
+  files = λ told. c.in_ok-append.ensures.ok ∙ ap (λ t. files_after_append (table_files t) c.args.name.now c.args.bytes.now) c.in_ok-call.ensures.same.0;
   disk = λ told.
       disk_after c.args.self.now c.call.new.self (Append c.new-name.result c.in_ok-more.more) c.record.new.past.items c.record.ensures.items c.in_ok-call.ensures.open.0 c.in_ok-call.ensures.same.1
       ∙ ap (λ n. after (state.appended n c.in_ok-more.more.items (folder_disk c.args.self.now).now) (folder_disk c.args.self.now)) c.new-name.ensures

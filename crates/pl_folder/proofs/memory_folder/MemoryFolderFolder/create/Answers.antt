@@ -1,7 +1,7 @@
 use Rattle.std.proofs.Common.{rules, refl, ap, ◌∙◌}
 use Rattle.pl_folder.specs.declared.call.Call.TheVariants.{Create}
 use Rattle.pl_folder.specs.Disk.{after}
-use Rattle.pl_folder.specs.Effects.{created}
+use Rattle.pl_folder.specs.Effects.{files_after_create}
 use Rattle.pl_folder.specs.InMemory.{folder_disk}
 use Rattle.pl_folder.specs.States as state
 use Rattle.pl_folder.specs.Tables.{table_files}
@@ -21,7 +21,7 @@ returns-clause-calls c = record {
   tells = refl;
   records = refl;
   referent = refl;
-  files = λ told. c.in_ok-create.ensures.ok ∙ ap (λ t. created (table_files t) c.args.name.now) c.in_ok-call.ensures.same.0;
+  files = λ told. c.in_ok-create.ensures.ok ∙ ap (λ t. files_after_create (table_files t) c.args.name.now) c.in_ok-call.ensures.same.0;
   disk = λ told.
       disk_after c.args.self.now c.call.new.self (Create c.new-name.result) c.record.new.past.items c.record.ensures.items c.in_ok-call.ensures.open.0 c.in_ok-call.ensures.same.1
       ∙ ap (λ n. after (state.created n (folder_disk c.args.self.now).now) (folder_disk c.args.self.now)) c.new-name.ensures;

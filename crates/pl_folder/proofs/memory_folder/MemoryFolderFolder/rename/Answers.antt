@@ -7,7 +7,7 @@ use Rattle.pl_folder.specs.Tables.{table_files}
 use Rattle.pl_folder.proofs.RecordLemmas.{disk_after, kept_after, rename_kept}
 use Rattle.std.specs.Prelude.{is_some}
 use Rattle.std.specs.FinMap.{get}
-use Rattle.pl_folder.specs.Effects.{renamed}
+use Rattle.pl_folder.specs.Effects.{files_after_rename}
 use Rattle.pl_folder.specs.Entries.{name_bytes}
 use Rattle.pl_folder.proofs.memory_folder.MemoryFolderFolder.rename.Goals as goal
 
@@ -24,7 +24,7 @@ returns-clause-calls c = record {
   tells = refl;
   records = refl;
   referent = refl;
-  files = λ told. c.rename.ensures ∙ ap (λ t. renamed (table_files t) c.args.from.now c.args.to.now) c.in_ok-call.ensures.same.0;
+  files = λ told. c.rename.ensures ∙ ap (λ t. files_after_rename (table_files t) c.args.from.now c.args.to.now) c.in_ok-call.ensures.same.0;
   disk = λ told.
       disk_after c.args.self.now c.call.new.self (Rename c.new-from.result c.new-to.result) c.record.new.past.items c.record.ensures.items c.in_ok-call.ensures.open.0 c.in_ok-call.ensures.same.1
       ∙ ap (λ n. after (state.renamed n (name_bytes c.new-to.result) (folder_disk c.args.self.now).now) (folder_disk c.args.self.now)) c.new-from.ensures
