@@ -33,7 +33,7 @@ use Rattle.pl_cone.specs.Needs.{object_for}
 use Rattle.pl_cone.specs.Plans as plans
 use Rattle.pl_cone.specs.Plans.{position_of, slot_of, start_of, want_of}
 use Rattle.pl_cone.specs.Skipped.{skip_causes}
-use Rattle.pl_cone.specs.Slots.{HaveWantedNames, count_before, is_there, joined, object_told, position_at, position_if, positions, positions_in, slots_by, start_at, start_in, walks, want_at, want_in, wants}
+use Rattle.pl_cone.specs.Slots.{HaveWantedNames, count_before, is_there, joined, object_told, position_at, position_if, positions, positions_in, slots_by, start_at, walks, want_at, want_in, wants}
 use Rattle.pl_cone.specs.Table.{IsRunTable, is_candidate, names_by, rows_in, walk_of, walked_by}
 use Rattle.pl_cone.specs.Taken as files
 use Rattle.pl_cone.specs.Taken.{files_in, object_by}

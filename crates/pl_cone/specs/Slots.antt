@@ -3,7 +3,7 @@ use Rattle.std.specs.Prelude.{◌≡◌, ◌<◌, ℕ, Bool, true, false, List, 
 use Rattle.std.specs.List.{All, filter_map, cons_option, range_with_len}
 use Rattle.pl_base.specs.Answers.{Answers, because}
 use Rattle.pl_cone.specs.Faulted.{is_memory, of_plan}
-use Rattle.pl_cone.specs.Plans.{want_of}
+use Rattle.pl_cone.specs.Plans.{start_of, want_of}
 use Rattle.pl_cone.specs.Table.{is_candidate, rows_of, walk_of}
 use Rattle.pl_cone.specs.Taken.{object_by}
 use Rattle.pl_cone.specs.declared.asked.Asked.{Asked}
@@ -83,13 +83,9 @@ walks t = map (λ row. positions_in (positions t) (walk_of t row)) (filter (is_c
 abbrev pub slots_by : RunTable → Asked → Result (List Slot) PlanningFault
 slots_by t a = because of_plan (if a.share then plan_shared a.rows.now (wants t) (walks t) a.region else plan (disjoint a.rows.now (wants t) a.region) (wants t) a.region)
 
-abbrev pub start_in : Option Slot → ℕ
-start_in None = 0
-start_in (Some slot) = slot.start
-
 abbrev pub start_at : List Slot → Option ℕ → ℕ
 start_at slots None = 0
-start_at slots (Some position) = start_in (slice_get slots position)
+start_at slots (Some position) = start_of (slice_get slots position)
 
 -- the slots have the names of the wants, in their order
 abbrev pub HaveWantedNames : List Want → List Slot → Type 0

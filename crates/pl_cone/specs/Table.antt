@@ -119,9 +119,6 @@ pub record IsWalkScope (ts : List Taken) (rows : List ℕ) (w : WalkScope) : Typ
   pub scope : w.scope ≡ walked_by ts rows
   pub positions : w.positions.items ≡ positions_of (length ts) rows
 
-abbrev pub zeros : Walked → List ℕ
-zeros members = replicate (length members) 0
-
 -- an index tells the definers of a scope's members
 abbrev pub IsIndexOfScope : WalkScope → List Entry → Type 0
 IsIndexOfScope w index = (among : Among) → among.index.now ≡ index → among.positions.now ≡ w.positions.items → IsIndexAmong (objects w.scope) among

@@ -2,6 +2,7 @@
 ghost use Rattle.std.specs.Prelude.{◌≡◌, ◌≤◌, ◌<◌, IfOk, OnOk, None, length, replicate};
 ghost use Rattle.std.specs.List.{All};
 ghost use Rattle.pl_scope.specs.Scope.{walked, IsAccepted};
+ghost use Rattle.pl_cone.specs.Candidates.{zeros};
 ghost use Rattle.pl_cone.specs.Table as spec;
 ghost use Rattle.pl_cone.specs.Taken.{WereTaken};
 
@@ -108,7 +109,7 @@ impl<'f> WalkScope<'f> {
 
     /// A place for each member, all at 0: no link refusal asks where a member is loaded.
     pub fn zeros(&self, alloc: Global) -> Result<Places, AllocError>
-        ensures { IfOk result (λ places. places ≡ spec.zeros self.now.scope) }
+        ensures { IfOk result (λ places. places ≡ zeros self.now.scope) }
     {
         let rows = vec![in alloc; 0; self.scope.count() as usize]?;
         Ok(Places::new(Rows::from_vec(rows)))
