@@ -6,21 +6,23 @@ use Rattle.std.proofs.lemmas.List.{length-map}
 use Rattle.std.proofs.lemmas.List.FromFn.{length-map-range_with_len}
 use Rattle.std.proofs.lemmas.Option.{same_Some, slice_get-map, slice_get_within}
 use Rattle.pl_base.specs.Answers.{◌>>=◌, Answers, AnswersAs, because}
+use Rattle.pl_elf.specs.Kinds.{is_library}
 use Rattle.pl_elf.specs.declared.range.Range.{Range}
 use Rattle.pl_form.specs.declared.file.Entry.{Entry}
 use Rattle.pl_form.specs.declared.file.Entry.TheVariants.{There, BadMark, Refused}
+use Rattle.pl_object.specs.declared.object.Object.{Object}
 use Rattle.pl_slots.specs.declared.slot.Slot.{Slot}
 use Rattle.pl_slots.specs.declared.slot.Want.{Want}
 use Rattle.pl_cone.specs.Currency.{held_rows, run_stamp, stale_at, stale_rows, stamps_of}
 use Rattle.pl_cone.specs.Faulted.{is_memory, of_cone}
 use Rattle.pl_cone.specs.Plans as plans
-use Rattle.pl_cone.specs.Plans.{RunPlan, Standing, cause_of, is_stale, planned, slot_of, standing, standings}
+use Rattle.pl_cone.specs.Plans.{RunPlan, Standing, cause_of, is_stale, planned, slot_of, standing, standings, want_of}
 use Rattle.pl_cone.specs.Skipped.{skip_of}
 use Rattle.pl_cone.specs.Skips.{stops_memory}
 use Rattle.pl_cone.specs.Slots.{HaveWantedNames, count_before, is_there, object_told, position_at, position_if, positions, slots_by, start_at, want_in, wants}
 use Rattle.pl_cone.specs.Table.{IsPlan, IsRunTable, is_candidate, names_where, planned_by, standings_by}
 use Rattle.pl_cone.specs.Taken as files
-use Rattle.pl_cone.specs.Taken.{files_in, is_library_entry, object_by}
+use Rattle.pl_cone.specs.Taken.{files_in, is_library_entry, object_by, object_of}
 use Rattle.pl_cone.specs.declared.asked.Asked.{Asked}
 use Rattle.pl_cone.specs.declared.fault.PlanningFault.{PlanningFault}
 use Rattle.pl_cone.specs.declared.plan.RowPlan.{RowPlan}
@@ -80,8 +82,11 @@ stale_long t places stale is = ap length is ∙ length-map-range_with_len (stale
 
 -- ---- what is no library has no slot
 
+no_library : (n : List ℕ) (o : Object) → is_library o.kind ≡ false → want_of n (Ok o) ≡ None
+no_library n o out = rw out refl
+
 none_wanted : (n : List ℕ) (e : Entry) → is_library_entry e ≡ false → object_told n (object_by e) ≡ None
-none_wanted n (There file) out = rw out refl
+none_wanted n (There file) out = no_library n (object_of file) out
 none_wanted n BadMark out = refl
 none_wanted n (Refused number argument) out = refl
 
