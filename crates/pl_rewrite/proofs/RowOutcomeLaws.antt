@@ -5,7 +5,8 @@ use Rattle.std.specs.List.{AllZip}
 use Rattle.std.specs.Option.{option_and_then, option_map}
 use Rattle.std.specs.Result.{is_ok}
 use Rattle.std.proofs.lemmas.Bool.{cases_Bool}
-use Rattle.std.proofs.lemmas.Option.{none-some, same_Some, slice_get-map}
+use Rattle.std.proofs.lemmas.List.{length-map}
+use Rattle.std.proofs.lemmas.Option.{none-some, same_Some, slice_get-map, slice_get_within}
 use Rattle.pl_cone.specs.Plans as plans
 use Rattle.pl_cone.specs.Skipped.{skip_causes, skip_of}
 use Rattle.pl_cone.specs.Table.{IsPlan, IsRunTable, is_candidate, planned_by}
@@ -14,8 +15,10 @@ use Rattle.pl_cone.specs.declared.asked.Asked.{Asked}
 use Rattle.pl_cone.specs.declared.link.Link.{Link}
 use Rattle.pl_cone.specs.declared.plan.RowPlan.{RowPlan}
 use Rattle.pl_cone.specs.declared.skip.Skip.{Skip}
+use Rattle.pl_cone.specs.declared.table.RunTable.{RunTable}
 use Rattle.pl_cone.specs.declared.taken.Taken.{Taken}
 use Rattle.pl_cone.proofs.CandidateLaws.{candidate_is}
+use Rattle.pl_cone.proofs.NeedLaws.{slice_get_at}
 use Rattle.pl_cone.proofs.RowLaws.{IsRow, row_is}
 use Rattle.pl_cone.proofs.TakenLaws.{marked_read}
 use Rattle.pl_cone.proofs.WalkLaws.{library_entry}
@@ -60,8 +63,9 @@ use Rattle.pl_rewrite.proofs.LibraryAtLaws.{object_known}
 use Rattle.pl_rewrite.proofs.NewLaws.{library_state, program_state}
 use Rattle.pl_rewrite.proofs.NewLibraryLaws.{IsFirst, first_is, library_firm}
 use Rattle.pl_rewrite.proofs.OutcomeLaws.{by_cause, current_is, large_is, new_is, no_cause, skipped_is}
+use Rattle.pl_rewrite.proofs.RowByRowLaws.{zip_each}
 use Rattle.pl_rewrite.proofs.PlannedFileLaws.{library_numbers, meant_is, planned_two}
-use Rattle.pl_rewrite.proofs.StaleRowLaws.{stale_candidate, stale_flag}
+use Rattle.pl_rewrite.proofs.StaleRowLaws.{column, stale_candidate, stale_flag}
 use Rattle.pl_rewrite.proofs.WholeLaws.{library_made}
 
 entry_of : (region : Range) (ts : List Taken) (x : Taken) → IsRow region ts x → x.entry ≡ entry_in x.bytes
@@ -252,3 +256,26 @@ module _ (n : Numbered) (links : List Link) (causes : List (Option Skip)) (a : A
 
       made_fresh : (row : ℕ) (x : Taken) (c : Option Skip) (made : Option RowOutcome) (o : RowOutcome) → slice_get n.files.now row ≡ Some x → slice_get causes row ≡ Some c → spec.is_stale stale row ≡ false → made ≡ None → spec.IsOutcomeFor x c made o → IsOutcome files a.region run x o
       made_fresh row x c made o at told off none is_for = fresh_outcome row x c o at told off (subst (λ (m : Option RowOutcome). spec.IsOutcomeFor x c m o) none is_for)
+
+  pub rows_are : (made : List (Option RowOutcome)) (os : List RowOutcome) → spec.AreMade n stale made → spec.AreAll n.files.now causes made os → AllZip (IsOutcome files a.region run) n.files.now os
+  rows_are made os are all =
+      let told : length causes ≡ length n.files.now = ap length is.causes ∙ length-map n.files.now (λ (x : Taken). plans.cause_of (skip_of files a.region x.name)) in
+      let each_flag : length stale ≡ length n.files.now = (column n links causes a p stale is plan flags).count in
+      zip_each (IsOutcome files a.region run) n.files.now os all.count (λ i x o at there.
+      let lt : i < length n.files.now = slice_get_within n.files.now i x at in
+      let c = slice_get_at causes i (omega (arith, lt, told)) in
+      let m = slice_get_at made i (omega (arith, lt, are.count, each_flag)) in
+      each_outcome i x c.0 m.0 o at c.1 (are.each i m.0 m.1) (all.each i x c.0 m.0 o at c.1 m.1 there))
+
+-- ---- a table whose columns are lent
+
+abbrev pub with_walks : RunTable → List (List ℕ) → RunTable
+with_walks t walks = record { files = t.files; walks = walks; index = t.index; links = t.links; causes = t.causes }
+
+pub table_again : (region : Range) (t : RunTable) (walks : List (List ℕ)) → walks ≡ t.walks → IsRunTable region t → IsRunTable region (with_walks t walks)
+table_again region t walks same is =
+    let again : IsRunTable region (with_walks t t.walks) = record { taken = is.taken; walks = is.walks; index = is.index; sized = is.sized; links = is.links; causes = is.causes } in
+    subst (λ (ws : List (List ℕ)). IsRunTable region (with_walks t ws)) (sym same) again
+
+pub plan_again : (t : RunTable) (walks : List (List ℕ)) (a : Asked) (p : RowPlan) → IsPlan t a p → IsPlan (with_walks t walks) a p
+plan_again t walks a p plan = record { places = plan.places; programs = plan.programs; stale = plan.stale; stamps = plan.stamps }
