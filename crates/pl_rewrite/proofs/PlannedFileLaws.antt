@@ -51,13 +51,16 @@ by_currency true true stamp old is = refl
 by_currency true false stamp old is = refl
 by_currency false current stamp old is = absurd cc
 
+abbrev member_with : List ℕ → List ℕ → ℕ → ℕ → Member
+member_with name original slot stamp = record { name = name; original = original; version = number_of Two; slot = slot; stamp = stamp }
+
 -- members with the same parts
 same_member : (name original other : List ℕ) (slot place stamp time : ℕ) → original ≡ other → slot ≡ place → stamp ≡ time
-    → ◌≡◌ {A = Member} (record { name = name; original = original; version = number_of Two; slot = slot; stamp = stamp }) (record { name = name; original = other; version = number_of Two; slot = place; stamp = time })
+    → member_with name original slot stamp ≡ member_with name other place time
 same_member name original other slot place stamp time one two three =
-    ap (λ (o : List ℕ). record { name = name; original = o; version = number_of Two; slot = slot; stamp = stamp }) one
-    ∙ (ap (λ (s : ℕ). record { name = name; original = other; version = number_of Two; slot = s; stamp = stamp }) two
-    ∙ ap (λ (s : ℕ). record { name = name; original = other; version = number_of Two; slot = place; stamp = s }) three)
+    ap (λ (o : List ℕ). member_with name o slot stamp) one
+    ∙ (ap (λ (s : ℕ). member_with name other s stamp) two
+    ∙ ap (λ (s : ℕ). member_with name other place s) three)
 
 module _ (n : Numbered) (links : List Link) (causes : List (Option Skip)) (a : Asked) (p : RowPlan) (is : IsRunTable a.region (table_with n links causes)) (plan : IsPlan (table_with n links causes) a p) (places : n.places.now ≡ p.places) (stamps : n.stamps.now ≡ p.stamps) where
   abbrev files : sound.Files
@@ -118,7 +121,7 @@ module _ (n : Numbered) (links : List Link) (causes : List (Option Skip)) (a : A
   members_are (row ∷ rows) [] zip flags = absurd zip
   members_are (row ∷ rows) (r ∷ rs) zip flags =
       let one : r.member ≡ planned r.member.name = member_is row r (flags 0 row refl) zip.0 in
-      let same : ◌≡◌ {A = Member} (record { name = r.member.name; original = r.member.original; version = number_of Two; slot = r.member.slot; stamp = r.member.stamp }) (planned r.member.name) =
+      let same : member_with r.member.name r.member.original r.member.slot r.member.stamp ≡ planned r.member.name =
       same_member r.member.name r.member.original (planned r.member.name).original r.member.slot (planned r.member.name).slot r.member.stamp (planned r.member.name).stamp (ap (λ (m : Member). m.original) one) (ap (λ (m : Member). m.slot) one) (ap (λ (m : Member). m.stamp) one) in
       ap (λ (m : Member). m ∷ members (all_in Two rs)) same ∙ ap (λ (ms : List Member). planned r.member.name ∷ ms) (members_are rows rs zip.1 (λ m k at. flags (suc m) k at))
 

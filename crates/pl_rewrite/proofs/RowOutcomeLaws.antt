@@ -44,7 +44,7 @@ use Rattle.pl_rewrite.specs.Changes.{put}
 use Rattle.pl_rewrite.specs.Contents.{conflicts_in}
 use Rattle.pl_rewrite.specs.Forms.{HasFormWith, file_with}
 use Rattle.pl_rewrite.specs.Libraries.{HasForm, HasFormBy, IsNew, firm_of, storable_library}
-use Rattle.pl_rewrite.specs.Outcomes.{IsMadeAt, IsOutcome, KeepsFile, MayBe, kept_by, made_by, made_in, made_original, made_program, made_with, too_large}
+use Rattle.pl_rewrite.specs.Outcomes.{IsMadeAt, IsOutcome, KeepsFile, MayBe, kept_by, made_by, made_in, made_original, made_program, made_with, put_original, too_large}
 use Rattle.pl_rewrite.specs.Outcomes as spec
 use Rattle.pl_rewrite.specs.Reports as reports
 use Rattle.pl_rewrite.specs.Rows.{IsFirmAt, IsWalkRow, firm_by, firms_of, is_library_row, number_at, of_firm, walk_of}
@@ -71,6 +71,24 @@ use Rattle.pl_rewrite.proofs.WholeLaws.{library_made}
 entry_of : (region : Range) (ts : List Taken) (x : Taken) → IsRow region ts x → x.entry ≡ entry_in x.bytes
 unfolding taken_of
 entry_of region ts x known = ap (λ (t : Taken). t.entry) known.taken.is
+
+-- a file that is not prelinked is its own original
+pub no_mark : (x : Taken) → marked_in x.bytes ≡ None → put (Some x.bytes) x.name (Some (original_in x.bytes)) ≡ None
+unfolding original_in
+no_mark x none =
+    let same : original_or_file x.bytes (marked_in x.bytes) ≡ x.bytes = ap (original_or_file x.bytes) none in
+    ap (λ (bs : List ℕ). put (Some x.bytes) x.name (Some bs)) same ∙ ap (λ (b : Bool). if b then None else Some (Put x.name x.bytes)) (eq_refl x.bytes)
+
+-- one that is gets what its mark tells
+pub put_mark : (x : Taken) (m : Marked) (name old own original : List ℕ) → Some m ≡ marked_in x.bytes → name ≡ x.name → old ≡ x.bytes → own ≡ m.original → original ≡ own → put (Some old) name (Some original) ≡ put_original x
+unfolding original_in
+put_mark x m name old own original mark named before told copied =
+    let same : m.original ≡ original_or_file x.bytes (marked_in x.bytes) = ap (original_or_file x.bytes) mark in
+    ap (λ (bs : List ℕ). put (Some bs) name (Some original)) before
+    ∙ (ap (λ (k : List ℕ). put (Some x.bytes) k (Some original)) named ∙ ap (λ (bs : List ℕ). put (Some x.bytes) x.name (Some bs)) (copied ∙ (told ∙ same)))
+
+abbrev make : Option Change → RowState → Bool → Made
+make change state given = record { change = change; state = state; given = given }
 
 -- ---- the parts of a new library
 
@@ -124,7 +142,7 @@ module _ (n : Numbered) (links : List Link) (causes : List (Option Skip)) (a : A
       let kind : is_library first.firm.object.kind ≡ false = sym (ap (of_firm false (λ (r : Firm). is_library r.object.kind)) first.at) ∙ other in
       let state : states.Program false made.conflicts ≡ reports.state_in x.name false (marked_in made.file.items) =
       ap (λ (count : ℕ). states.Program false count) rows ∙ program_state files (changes.numbers files a.region run) x.name x.bytes made.file.items first.firm.object (known row x at).file object kind new in
-      ap (λ (s : RowState). record { change = put (Some x.bytes) x.name (Some made.file.items); state = s; given = true }) state
+      ap (λ (s : RowState). make (put (Some x.bytes) x.name (Some made.file.items)) s true) state
       ∙ sym (new_is files a.region run x.name x.bytes (known row x at).file made.file.items (named_stale row x at on) new)
 
   -- the file of a new library is the one that is planned
@@ -185,7 +203,7 @@ module _ (n : Numbered) (links : List Link) (causes : List (Option Skip)) (a : A
       ap (λ (s : ℕ). states.Library false s parts.stamp) slot
       ∙ (ap (λ (s : ℕ). states.Library false ((changes.numbers files a.region run).slot x.name) s) stamp
       ∙ library_state files (changes.numbers files a.region run) x.name x.bytes file row_known.file entry some) in
-      ap (λ (s : RowState). record { change = put (Some x.bytes) x.name (Some file); state = s; given = true }) state
+      ap (λ (s : RowState). make (put (Some x.bytes) x.name (Some file)) s true) state
       ∙ sym (new_is files a.region run x.name x.bytes row_known.file file (named_stale row x at on) some)
 
   pub stale_outcome : (row : ℕ) (x : Taken) (o : RowOutcome) → slice_get n.files.now row ≡ Some x → spec.is_stale stale row ≡ true → IsMadeAt n row o → IsOutcome files a.region run x o
@@ -210,25 +228,18 @@ module _ (n : Numbered) (links : List Link) (causes : List (Option Skip)) (a : A
       (sym (ap (λ (cs : List (Option Skip)). slice_get cs row) is.causes
       ∙ (slice_get-map (λ (y : Taken). plans.cause_of (skip_of files a.region y.name)) n.files.now row ∙ ap (option_map (λ (y : Taken). plans.cause_of (skip_of files a.region y.name))) at)) ∙ told)
 
-  -- a current file that is not prelinked is as it was
-  no_mark : (x : Taken) → marked_in x.bytes ≡ None → put (Some x.bytes) x.name (Some (original_in x.bytes)) ≡ None
-  unfolding original_in
-  no_mark x none =
-      let same : original_or_file x.bytes (marked_in x.bytes) ≡ x.bytes = ap (original_or_file x.bytes) none in
-      ap (λ (bs : List ℕ). put (Some x.bytes) x.name (Some bs)) same ∙ ap (λ (b : Bool). if b then None else Some (Put x.name x.bytes)) (eq_refl x.bytes)
-
   fresh_made : (row : ℕ) (x : Taken) (c : Option Skip) (m : Option Marked) → slice_get n.files.now row ≡ Some x → slice_get causes row ≡ Some c → spec.is_stale stale row ≡ false → marked_in x.bytes ≡ m → made_by x (kept_by x c m) ≡ meant x
   fresh_made row x (Some cause) m at told off mark = sym (skipped_is files a.region run x.name x.bytes (known row x at).file cause (by_cause (skip_of files a.region x.name) cause (cause_at row x (Some cause) at told)))
   fresh_made row x None None at told off mark =
       let ok : plans.is_candidate files a.region x.name ≡ true = candidate_is a.region files x.name ∙ no_cause (skip_of files a.region x.name) (cause_at row x None at told) in
       let fresh : plans.is_stale files a.region p.slots x.name ≡ false = sym (stale_flag n links causes a p stale is plan flags row x at) ∙ off in
-      ap (λ (change : Option Change). record { change = change; state = states.Skipped (too_large x); given = false }) (no_mark x mark)
-      ∙ (ap (λ (k : Option Marked). record { change = None; state = reports.state_in x.name true k; given = false }) (sym mark)
+      ap (λ (change : Option Change). make change (states.Skipped (too_large x)) false) (no_mark x mark)
+      ∙ (ap (λ (k : Option Marked). make None (reports.state_in x.name true k) false) (sym mark)
       ∙ sym (current_is files a.region run x.name x.bytes (known row x at).file ok fresh))
   fresh_made row x None (Some m) at told off mark =
       let ok : plans.is_candidate files a.region x.name ≡ true = candidate_is a.region files x.name ∙ no_cause (skip_of files a.region x.name) (cause_at row x None at told) in
       let fresh : plans.is_stale files a.region p.slots x.name ≡ false = sym (stale_flag n links causes a p stale is plan flags row x at) ∙ off in
-      ap (λ (k : Option Marked). record { change = None; state = reports.state_in x.name true k; given = false }) (sym mark)
+      ap (λ (k : Option Marked). make None (reports.state_in x.name true k) false) (sym mark)
       ∙ sym (current_is files a.region run x.name x.bytes (known row x at).file ok fresh)
 
   kept_may : (x : Taken) (c : Option Skip) (m : Option Marked) → MayBe x (kept_by x c m)
