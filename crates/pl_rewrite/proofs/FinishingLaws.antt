@@ -1,12 +1,14 @@
 -- Files and their outcomes, one after the other.
-use Rattle.std.proofs.Common.{◌≡◌, ℕ, zero, suc, ◌+◌, ◌<◌, ◌≤◌, List, [], ◌∷◌, length, take, drop, get_or, refl, sym, ap, subst, ◌∙◌, arith}
+use Rattle.std.proofs.Common.{◌≡◌, ℕ, zero, suc, false, ◌+◌, ◌<◌, ◌≤◌, List, [], ◌∷◌, length, take, drop, get_or, refl, sym, ap, subst, ◌∙◌, arith}
 use Rattle.std.specs.List.{AllZip}
 use Rattle.std.proofs.lemmas.List.{take_all}
 use Rattle.std.proofs.lemmas.Slice.Zip.{AllZip-long}
 use Rattle.pl_cone.specs.declared.taken.Taken.{Taken}
-use Rattle.pl_rewrite.specs.Outcomes.{made_by, made_from, with_made}
+use Rattle.pl_rewrite.specs.Outcomes.{all_made, made_by, made_from, with_made}
+use Rattle.pl_journal.specs.declared.change.Change.{Change}
 use Rattle.pl_rewrite.specs.declared.finishing.MadeFiles.{MadeFiles}
 use Rattle.pl_rewrite.specs.declared.outcome.RowOutcome.{RowOutcome}
+use Rattle.pl_rewrite.specs.declared.report.ReportRow.{ReportRow}
 
 -- the next file, and its outcome
 pub record IsNext (R : Taken → RowOutcome → Type 0) (ts : List Taken) (os : List RowOutcome) (i : ℕ) (t : Taken) (o : RowOutcome) (rest : List RowOutcome) : Type 0 where
@@ -49,3 +51,13 @@ made_next all (x ∷ ts) (y ∷ os) (suc i) t o lt same at that = made_next (wit
 pub made_whole : (all : MadeFiles) (ts : List Taken) (os : List RowOutcome) (i : ℕ) → length ts ≤ i → length os ≡ length ts → made_from all (take i ts) (take i os) ≡ made_from all ts os
 made_whole all ts os i le same =
     ap (λ (xs : List Taken). made_from all xs (take i os)) (take_all i ts le) ∙ ap (λ (xs : List RowOutcome). made_from all ts xs) (take_all i os (omega (arith, le, same)))
+
+abbrev make : List Change → List ReportRow → MadeFiles
+make rows states = record { rows = rows; states = states; given = false }
+
+-- of none
+pub made_begin : (rows : List Change) (states : List ReportRow) (ts : List Taken) (os : List RowOutcome) → rows ≡ [] → states ≡ [] → make rows states ≡ all_made (take 0 ts) (take 0 os)
+unfolding made_from
+made_begin rows states ts os none also =
+    ap (λ (x : List Change). make x states) none ∙ ap (λ (x : List ReportRow). make [] x) also
+

@@ -55,3 +55,6 @@ pub mod ProgramRowLaws
 pub mod MadeRowLaws
 pub mod CandidateRowLaws
 pub mod PlannedFileLaws
+pub mod StaleRowLaws
+pub mod OutcomeLaws
+pub mod RowOutcomeLaws

@@ -27,6 +27,7 @@ use Rattle.pl_scope.proofs.ClosureLaws.{walk_is}
 use Rattle.law_sound.specs.Plan.{Plan, for_library, planned_in, planned_member}
 use Rattle.law_sound.specs.Rule as sound
 use Rattle.law_sound.specs.Rule.{Files, Member, Mark, objects, object_at, of_walk}
+use Rattle.pl_rewrite.specs.Contents.{conflicts_in, count_in}
 use Rattle.pl_rewrite.specs.Reports as reports
 use Rattle.pl_rewrite.specs.declared.report.RowState.TheVariants.{Library, Program}
 use Rattle.pl_rewrite.proofs.FormLaws.{original_is}
@@ -83,3 +84,30 @@ library_state files numbers n bytes file at library new = by_walk (sound.walk_in
         ap (λ (k : Mark). k.stamp) f.mark ∙ (ap (λ (r : Result Object Skip). for_library r (numbers.stamp n)) begins.file ∙ rw kind refl) in
         sym (ap (reports.state_in n false) (forms_are_read file f.made f.bytes f.form)
         ∙ state_is f.made (numbers.slot n) (numbers.stamp n) (ap (λ (o : Object). is_library o.kind) object ∙ kind) slot stamp)
+
+-- of a form of a program
+program_is : (m : Marked) → is_library m.object.kind ≡ false → reports.state_of false m ≡ Program false (length m.conflicts)
+program_is m other = ap (λ (b : Bool). if b then Library false m.slot m.stamp else Program false (length m.conflicts)) other
+
+-- what the members of a program's walk prelink is reported by its conflict rows
+pub program_state : (files : Files) (numbers : Plan) (n bytes file : List ℕ) (o : Object) → files n ≡ Some bytes → objects (format skip_causes) files n ≡ Ok o → is_library o.kind ≡ false → Some file ≡ planned_in (format skip_causes) files numbers n
+    → Program false (conflicts_in file) ≡ reports.state_in n false (marked_in file)
+program_state files numbers n bytes file o at there other new = by_walk (sound.walk_in (format skip_causes) files n) refl (sym new)
+  where
+    member : List ℕ → Member
+    member = planned_member (format skip_causes) files numbers
+
+    by_walk : (r : Result Walked Skip) → sound.walk_in (format skip_causes) files n ≡ r → of_walk (format skip_causes) member r ≡ Some file → Program false (conflicts_in file) ≡ reports.state_in n false (marked_in file)
+    by_walk (Err cause) walk h = absurd (none-some file h)
+    by_walk (Ok ws) walk h =
+        let begins = walk_is skip_causes.walk (objects (format skip_causes) files) n ws walk in
+        let x : Object = begins.object in
+        let given : form.prelinked (member n ∷ map member (names begins.rest)) ≡ Some file = ap (λ (vs : Walked). form.prelinked (map member (names vs))) (sym begins.is) ∙ h in
+        let f : IsPrelinkedForm (member n) (map member (names begins.rest)) file = prelinked_forms (member n) (map member (names begins.rest)) file given in
+        let own : reads (original_in bytes) ≡ Ok x = (original_is n (original_in bytes) x (sym (ap (object_at (format skip_causes) n) at) ∙ begins.file)).reads in
+        let same : f.made.original ≡ original_in bytes = f.original ∙ ap (sound.original_at (format skip_causes)) at in
+        let object : f.made.object ≡ x = ok_same f.made.object x (sym f.form.firm.accepted ∙ (ap reads same ∙ own)) in
+        let first : x ≡ o = ok_same x o (sym begins.file ∙ there) in
+        let kind : is_library f.made.object.kind ≡ false = ap (λ (y : Object). is_library y.kind) (object ∙ first) ∙ other in
+        let read : marked_in file ≡ Some f.made = forms_are_read file f.made f.bytes f.form in
+        ap (λ (m : Option Marked). Program false (count_in m)) read ∙ sym (ap (reports.state_in n false) read ∙ program_is f.made kind)

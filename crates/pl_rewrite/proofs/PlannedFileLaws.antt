@@ -10,7 +10,7 @@ use Rattle.pl_cone.specs.Plans as plans
 use Rattle.pl_cone.specs.Plans.{slot_of}
 use Rattle.pl_cone.specs.Skipped.{skip_causes}
 use Rattle.pl_cone.specs.Table.{IsPlan, IsRunTable, is_candidate, planned_by, walked_by}
-use Rattle.pl_cone.specs.Taken.{files_in, is_library_entry}
+use Rattle.pl_cone.specs.Taken.{files_in, is_library_entry, object_by}
 use Rattle.pl_cone.specs.declared.asked.Asked.{Asked}
 use Rattle.pl_cone.specs.declared.link.Link.{Link}
 use Rattle.pl_cone.specs.declared.plan.RowPlan.{RowPlan}
@@ -31,7 +31,7 @@ use Rattle.law_sound.specs.Rule as sound
 use Rattle.law_sound.specs.Rule.{Member, mark_at, objects, of_walk, original_at, stamp_of}
 use Rattle.pl_rewrite.specs.Changes as changes
 use Rattle.pl_rewrite.specs.Rows.{IsFileMeant, IsFirmAt, IsWalkRow, firms_of, number_at, unless_none, walk_of}
-use Rattle.pl_rewrite.specs.Sources.{members}
+use Rattle.pl_rewrite.specs.Sources.{members, versioned}
 use Rattle.pl_rewrite.specs.declared.numbers.Numbered.{Numbered}
 use Rattle.pl_rewrite.proofs.CandidateRowLaws.{candidate_flag, member_flag, table_with, walk_row, walk_told}
 use Rattle.pl_rewrite.proofs.FirmRowLaws.{IsRowOf, firms_named, firms_zip, named_of, row_of}
@@ -51,13 +51,16 @@ by_currency true true stamp old is = refl
 by_currency true false stamp old is = refl
 by_currency false current stamp old is = absurd cc
 
+abbrev member_with : List ℕ → List ℕ → ℕ → ℕ → Member
+member_with name original slot stamp = record { name = name; original = original; version = number_of Two; slot = slot; stamp = stamp }
+
 -- members with the same parts
 same_member : (name original other : List ℕ) (slot place stamp time : ℕ) → original ≡ other → slot ≡ place → stamp ≡ time
-    → ◌≡◌ {A = Member} (record { name = name; original = original; version = number_of Two; slot = slot; stamp = stamp }) (record { name = name; original = other; version = number_of Two; slot = place; stamp = time })
+    → member_with name original slot stamp ≡ member_with name other place time
 same_member name original other slot place stamp time one two three =
-    ap (λ (o : List ℕ). record { name = name; original = o; version = number_of Two; slot = slot; stamp = stamp }) one
-    ∙ (ap (λ (s : ℕ). record { name = name; original = other; version = number_of Two; slot = s; stamp = stamp }) two
-    ∙ ap (λ (s : ℕ). record { name = name; original = other; version = number_of Two; slot = place; stamp = s }) three)
+    ap (λ (o : List ℕ). member_with name o slot stamp) one
+    ∙ (ap (λ (s : ℕ). member_with name other s stamp) two
+    ∙ ap (λ (s : ℕ). member_with name other place s) three)
 
 module _ (n : Numbered) (links : List Link) (causes : List (Option Skip)) (a : Asked) (p : RowPlan) (is : IsRunTable a.region (table_with n links causes)) (plan : IsPlan (table_with n links causes) a p) (places : n.places.now ≡ p.places) (stamps : n.stamps.now ≡ p.stamps) where
   abbrev files : sound.Files
@@ -118,7 +121,7 @@ module _ (n : Numbered) (links : List Link) (causes : List (Option Skip)) (a : A
   members_are (row ∷ rows) [] zip flags = absurd zip
   members_are (row ∷ rows) (r ∷ rs) zip flags =
       let one : r.member ≡ planned r.member.name = member_is row r (flags 0 row refl) zip.0 in
-      let same : ◌≡◌ {A = Member} (record { name = r.member.name; original = r.member.original; version = number_of Two; slot = r.member.slot; stamp = r.member.stamp }) (planned r.member.name) =
+      let same : member_with r.member.name r.member.original r.member.slot r.member.stamp ≡ planned r.member.name =
       same_member r.member.name r.member.original (planned r.member.name).original r.member.slot (planned r.member.name).slot r.member.stamp (planned r.member.name).stamp (ap (λ (m : Member). m.original) one) (ap (λ (m : Member). m.slot) one) (ap (λ (m : Member). m.stamp) one) in
       ap (λ (m : Member). m ∷ members (all_in Two rs)) same ∙ ap (λ (ms : List Member). planned r.member.name ∷ ms) (members_are rows rs zip.1 (λ m k at. flags (suc m) k at))
 
@@ -136,3 +139,30 @@ module _ (n : Numbered) (links : List Link) (causes : List (Option Skip)) (a : A
   -- the file that is meant of its row
   pub meant_is : (row : ℕ) (x : Taken) (file : Option (List ℕ)) → is_candidate (table_with n links causes) row ≡ true → slice_get n.files.now row ≡ Some x → IsFileMeant n row Two file → file ≡ changes.prelinked files a.region run x.name
   meant_is row x file candidate at meant = meant (all_in Two (firms_of n row)) (in_versions Two (firms_of n row)) (begins_in Two (firms_of n row)) ∙ sym (planned_is row x candidate at)
+
+  -- the members are in version 2
+  two_members : (rows : List ℕ) (rs : List Firm) → AllZip (IsFirmAt n) rows rs → members (all_in Two rs) ≡ members rs
+  two_members [] [] zip = refl
+  two_members [] (r ∷ rs) zip = absurd zip
+  two_members (row ∷ rows) [] zip = absurd zip
+  two_members (row ∷ rows) (r ∷ rs) zip =
+      let f : IsRowOf n row r = row_of n row r zip.0 in
+      let same : (versioned (number_of Two) r).member ≡ r.member = subst (λ (y : Firm). (versioned (number_of Two) y).member ≡ y.member) f.is refl in
+      ap (λ (m : Member). m ∷ members (all_in Two rs)) same ∙ ap (λ (ms : List Member). r.member ∷ ms) (two_members rows rs zip.1)
+
+  pub planned_two : (row : ℕ) (x : Taken) → is_candidate (table_with n links causes) row ≡ true → slice_get n.files.now row ≡ Some x → prelinked (members (firms_of n row)) ≡ changes.prelinked files a.region run x.name
+  planned_two row x candidate at =
+      let walk : IsWalkRow n row = walk_row n links causes a is row candidate in
+      sym (planned_is row x candidate at ∙ ap prelinked (two_members (walk_of n row) (firms_of n row) (firms_zip n row walk.rows)))
+
+  -- the slot and the stamp of a library
+  pub library_numbers : (row : ℕ) (x : Taken) (o : Object) → is_candidate (table_with n links causes) row ≡ true → slice_get n.files.now row ≡ Some x → object_by x.entry ≡ Some o → is_library o.kind ≡ true
+      → (number_at n.places.now row ≡ numbers.slot x.name) × (number_at n.stamps.now row ≡ numbers.stamp x.name)
+  library_numbers row x o candidate at there library =
+      let known : IsRow a.region n.files.now x = row_is a.region n.files.now row x is.taken at in
+      let object : objects (format skip_causes) files x.name ≡ Ok o = known.object ∙ object_known x.name x.entry o there in
+      let kind : is_library_at (objects (format skip_causes) files x.name) ≡ true = ap is_library_at object ∙ library in
+      let flag : plans.is_candidate files a.region x.name ≡ true = sym (candidate_flag n links causes a is row x at) ∙ candidate in (
+        slot_is row x o at object (library_entry x.entry o there) ∙ ap (λ (b : Bool). if b then numbers.slot x.name else 0) kind,
+        stamp_is row x at flag ∙ ap (λ (b : Bool). if b then numbers.stamp x.name else 0) kind,
+      )

@@ -15,6 +15,7 @@ use Rattle.pl_elf.specs.declared.range.Range.{Range}
 use Rattle.pl_form.specs.Files.{original_in}
 use Rattle.pl_form.specs.declared.file.Marked.{Marked}
 use Rattle.pl_form.specs.declared.version.Version.TheVariants.{Two}
+use Rattle.pl_journal.specs.declared.change.Change.{Change}
 use Rattle.law_sound.specs.Rule.{Files}
 use Rattle.pl_rewrite.specs.Changes as changes
 use Rattle.pl_rewrite.specs.Flags.{flagged}
@@ -53,8 +54,12 @@ too_large t = skips.Form t.name 6
 abbrev pub current_state : Marked → RowState
 current_state m = reports.state_of true m
 
+-- the row that gives it its original
+abbrev pub put_original : Taken → Option Change
+put_original t = changes.put (Some t.bytes) t.name (Some (original_in t.bytes))
+
 abbrev pub made_original : Taken → Skip → Made
-made_original t cause = record { change = changes.put (Some t.bytes) t.name (Some (original_in t.bytes)); state = states.Skipped cause; given = false }
+made_original t cause = record { change = put_original t; state = states.Skipped cause; given = false }
 
 abbrev pub made_program : Taken → NewProgram → Made
 made_program t p = record { change = changes.put (Some t.bytes) t.name (Some p.file.items); state = states.Program false p.conflicts; given = true }

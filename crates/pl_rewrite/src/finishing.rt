@@ -45,18 +45,45 @@ pub struct MadeFiles {
     pub given: bool,
 }
 
-/// The row that gives a file other bytes than its old ones; None where they are the same.
-fn put(alloc: Global, taken: &Taken, bytes: Vec<u8>) -> Result<Option<Change>, AllocError>
+/// The row that gives a name other bytes than its old ones; None where they are the same.
+fn put(
+    alloc: Global,
+    name: &str,
+    old: &[u8],
+    bytes: Vec<u8>,
+) -> Result<Option<Change>, AllocError>
     ensures { IfOk result (λ row. row
-        ≡ changes.put (Some taken.now.bytes) taken.now.name (Some bytes.items)) }
+        ≡ changes.put (Some old.now) name.now (Some bytes.items)) }
 {
-    if taken.bytes.as_slice() == bytes.as_slice() {
+    if old == bytes.as_slice() {
         return Ok(None);
     }
     Ok(Some(Change::Put {
-        name: Text::copy_of(alloc, taken.name.as_str())?,
+        name: Text::copy_of(alloc, name)?,
         bytes: Rows::from_vec(bytes),
     }))
+}
+
+/// A copy of bytes.
+fn copy_of(alloc: Global, bytes: &[u8]) -> Result<Vec<u8>, AllocError>
+    ensures { IfOk result (λ v. v.items ≡ bytes.now) }
+{
+    Ok(Vec::from_slice(alloc, bytes)?)
+}
+
+/// The row that gives a file its original; None where it is its own.
+fn put_original(alloc: Global, taken: &Taken) -> Result<Option<Change>, AllocError>
+    requires { HasItsEntry taken.now }
+    ensures { IfOk result (λ row. row ≡ told.put_original taken.now) }
+{
+    let Some(marked) = taken.marked() else {
+        return Ok(None);
+    };
+    let own = marked.original.as_slice();
+    let original = copy_of(alloc, own)?;
+    let name = taken.name.as_str();
+    let old = taken.bytes.as_slice();
+    put(alloc, name, old, original)
 }
 
 /// A file that gets its original, for a cause. Any file but a prelinked one is its own.
@@ -64,18 +91,20 @@ fn made_original(alloc: Global, taken: &Taken, cause: Skip) -> Result<Made, Allo
     requires { HasItsEntry taken.now }
     ensures { IfOk result (λ made. made ≡ told.made_original taken.now cause) }
 {
-    let change = match taken.marked() {
-        None => None,
-        Some(marked) => {
-            let original = Vec::from_slice(alloc, marked.original.as_slice())?;
-            put(alloc, taken, original)?
-        }
-    };
     Ok(Made {
-        change,
+        change: put_original(alloc, taken)?,
         state: RowState::Skipped(cause),
         given: false,
     })
+}
+
+/// A file whose form would be too large.
+fn made_large(alloc: Global, taken: &Taken) -> Result<Made, AllocError>
+    requires { HasItsEntry taken.now }
+    ensures { IfOk result (λ made. made ≡ told.made_original taken.now (told.too_large taken.now)) }
+{
+    let cause = too_large(alloc, taken)?;
+    made_original(alloc, taken, cause)
 }
 
 /// A program that is prelinked anew.
@@ -84,10 +113,31 @@ fn made_program(alloc: Global, taken: &Taken, program: NewProgram) -> Result<Mad
 {
     let NewProgram { file, conflicts } = program;
     Ok(Made {
-        change: put(alloc, taken, file)?,
+        change: put(alloc, taken.name.as_str(), taken.bytes.as_slice(), file)?,
         state: RowState::Program {
             current: false,
             conflicts,
+        },
+        given: true,
+    })
+}
+
+/// A library that is prelinked anew, with its file.
+fn made_file(
+    alloc: Global,
+    taken: &Taken,
+    parts: &NewLibrary,
+    file: Vec<u8>,
+) -> Result<Made, AllocError>
+    ensures { IfOk result (λ made. made
+        ≡ told.made_with taken.now parts.now (Some file.items)) }
+{
+    Ok(Made {
+        change: put(alloc, taken.name.as_str(), taken.bytes.as_slice(), file)?,
+        state: RowState::Library {
+            current: false,
+            slot: parts.slot,
+            stamp: parts.stamp,
         },
         given: true,
     })
@@ -99,19 +149,10 @@ fn made_library(alloc: Global, taken: &Taken, parts: &NewLibrary) -> Result<Made
     requires form { told.HasLibraryForm taken.now parts.now }
     ensures { IfOk result (λ made. made ≡ told.made_library taken.now parts.now) }
 {
-    let Some(file) = storable_library(alloc, taken, parts, Version::Two)? else {
-        let cause = too_large(alloc, taken)?;
-        return Ok(made_original(alloc, taken, cause)?);
-    };
-    Ok(Made {
-        change: put(alloc, taken, file)?,
-        state: RowState::Library {
-            current: false,
-            slot: parts.slot,
-            stamp: parts.stamp,
-        },
-        given: true,
-    })
+    match storable_library(alloc, taken, parts, Version::Two)? {
+        None => Ok(made_large(alloc, taken)?),
+        Some(file) => Ok(made_file(alloc, taken, parts, file)?),
+    }
 }
 
 /// What a run makes of a file, by its outcome.
@@ -143,18 +184,24 @@ fn add_row(rows: &mut Rows<Change>, row: Option<Change>) -> Result<(), AllocErro
 }
 
 /// Adds what a run makes of the file of a name.
-fn add_made(all: &mut MadeFiles, name: Text, made: Made) -> Result<(), AllocError>
-    ensures { OnOk result (all.new ≡ spec.with_made all.old name made) }
+fn add_made(all: MadeFiles, name: Text, made: Made) -> Result<MadeFiles, AllocError>
+    ensures { IfOk result (λ more. more ≡ spec.with_made all name made) }
 {
-    let Made {
-        change,
-        state,
+    let MadeFiles {
+        mut rows,
+        mut states,
         given,
-    } = made;
-    add_row(&mut all.rows, change)?;
-    all.states.push(ReportRow { name, state })?;
-    all.given = all.given || given;
-    Ok(())
+    } = all;
+    add_row(&mut rows, made.change)?;
+    states.push(ReportRow {
+        name,
+        state: made.state,
+    })?;
+    Ok(MadeFiles {
+        rows,
+        states,
+        given: given || made.given,
+    })
 }
 
 /// What a run makes of its files by their outcomes.
@@ -173,11 +220,12 @@ fn all_made(
         states: Rows::new(alloc),
         given: false,
     };
-    for taken in files.into_vec() {
+    let items = files.into_vec();
+    for taken in items {
         if let Some(outcome) = outcomes.next() {
             let made = made_last(alloc, &taken, outcome)?;
             let Taken { name, .. } = taken;
-            add_made(&mut all, name, made)?;
+            all = add_made(all, name, made)?;
         }
     }
     Ok(all)

@@ -367,13 +367,17 @@ pub fn outcomes(
         links,
         causes,
     } = table;
+    let rows = walks.as_slice();
+    let places = plan.places.as_slice();
+    let stamps = plan.stamps.as_slice();
+    let stale = plan.stale.as_slice();
     let numbered = Numbered {
         files,
-        walks: walks.as_slice(),
+        walks: rows,
         index: &index,
-        places: plan.places.as_slice(),
-        stamps: plan.stamps.as_slice(),
+        places,
+        stamps,
     };
-    let made = made_of(alloc, &numbered, links, plan.stale.as_slice())?;
+    let made = made_of(alloc, &numbered, links, stale)?;
     all_outcomes(alloc, files, causes, made)
 }

@@ -64,6 +64,9 @@ pub fn rewrite(
     requires { AreTaken asked.now.region files }
     ensures { Answers is_memory result (spec.rewrite (files_in files) (names_of files) asked.now) }
 {
-    let Decided { plan, outcomes } = decide(alloc, files.as_slice(), asked)?;
-    Ok(finish(alloc, files, asked, plan, outcomes)?)
+    let lent = files.as_slice();
+    let decided = decide(alloc, lent, asked)?;
+    let Decided { plan, outcomes } = decided;
+    let rewritten = finish(alloc, files, asked, plan, outcomes)?;
+    Ok(rewritten)
 }

@@ -1,0 +1,292 @@
+-- The outcome of each row is what a run makes of its file.
+use Rattle.std.proofs.Common.{◌≡◌, ℕ, ◌<◌, Bool, true, false, List, [], ◌∷◌, length, map, Option, Some, None, Result, Ok, Err, refl, sym, ap, subst, ◌∙◌, arith, inl, inr}
+use Rattle.std.specs.Prelude.{◌&&◌, drop, not, slice_get, if◌then◌else◌}
+use Rattle.std.specs.List.{AllZip}
+use Rattle.std.specs.Option.{option_and_then, option_map}
+use Rattle.std.specs.Result.{is_ok}
+use Rattle.std.proofs.lemmas.Bool.{cases_Bool}
+use Rattle.std.proofs.lemmas.List.{length-map}
+use Rattle.std.proofs.lemmas.Option.{none-some, same_Some, slice_get-map, slice_get_within}
+use Rattle.pl_cone.specs.Plans as plans
+use Rattle.pl_cone.specs.Skipped.{skip_causes, skip_of}
+use Rattle.pl_cone.specs.Table.{IsPlan, IsRunTable, is_candidate, planned_by}
+use Rattle.pl_cone.specs.Taken.{entry_in, files_in, is_library_entry, marked_by, object_by, taken_of}
+use Rattle.pl_cone.specs.declared.asked.Asked.{Asked}
+use Rattle.pl_cone.specs.declared.link.Link.{Link}
+use Rattle.pl_cone.specs.declared.plan.RowPlan.{RowPlan}
+use Rattle.pl_cone.specs.declared.skip.Skip.{Skip}
+use Rattle.pl_cone.specs.declared.table.RunTable.{RunTable}
+use Rattle.pl_cone.specs.declared.taken.Taken.{Taken}
+use Rattle.pl_cone.proofs.CandidateLaws.{candidate_is}
+use Rattle.pl_cone.proofs.NeedLaws.{slice_get_at}
+use Rattle.pl_cone.proofs.RowLaws.{IsRow, row_is}
+use Rattle.pl_cone.proofs.TakenLaws.{marked_read}
+use Rattle.pl_cone.proofs.WalkLaws.{library_entry}
+use Rattle.pl_conflict.specs.Format.{format}
+use Rattle.pl_conflict.specs.Own.{own_words}
+use Rattle.pl_conflict.specs.Prelinked.{Firm, are_set, list_of, objects_of, prelinked, slots_of, stored}
+use Rattle.pl_elf.specs.Kinds.{is_library}
+use Rattle.pl_elf.specs.declared.range.Range.{Range}
+use Rattle.pl_form.specs.Files.{marked_in, original_in, original_or_file}
+use Rattle.pl_form.specs.declared.file.Marked.{Marked}
+use Rattle.pl_form.specs.declared.version.Version.{Version}
+use Rattle.pl_form.specs.declared.version.Version.TheVariants.{Two}
+use Rattle.pl_lists.specs.declared.list_row.ListRow.{ListRow}
+use Rattle.pl_object.specs.declared.object.Object.{Object}
+use Rattle.pl_journal.specs.declared.change.Change.{Change}
+use Rattle.pl_journal.specs.declared.change.Change.TheVariants.{Put}
+use Rattle.pl_scope.proofs.NameLaws.{eq_refl}
+use Rattle.law_sound.specs.Rule as sound
+use Rattle.law_sound.specs.Rule.{objects}
+use Rattle.sha2.specs.Sha256.{sha256}
+use Rattle.pl_rewrite.specs.Changes as changes
+use Rattle.pl_rewrite.specs.Changes.{put}
+use Rattle.pl_rewrite.specs.Contents.{conflicts_in}
+use Rattle.pl_rewrite.specs.Forms.{HasFormWith, file_with}
+use Rattle.pl_rewrite.specs.Libraries.{HasForm, HasFormBy, IsNew, firm_of, storable_library}
+use Rattle.pl_rewrite.specs.Outcomes.{IsMadeAt, IsOutcome, KeepsFile, MayBe, kept_by, made_by, made_in, made_original, made_program, made_with, put_original, too_large}
+use Rattle.pl_rewrite.specs.Outcomes as spec
+use Rattle.pl_rewrite.specs.Reports as reports
+use Rattle.pl_rewrite.specs.Rows.{IsFirmAt, IsWalkRow, firm_by, firms_of, is_library_row, number_at, of_firm, walk_of}
+use Rattle.pl_rewrite.specs.Sources.{AreSources, members}
+use Rattle.pl_rewrite.specs.declared.finishing.Made.{Made}
+use Rattle.pl_rewrite.specs.declared.numbers.Numbered.{Numbered}
+use Rattle.pl_rewrite.specs.declared.outcome.NewLibrary.{NewLibrary}
+use Rattle.pl_rewrite.specs.declared.outcome.NewProgram.{NewProgram}
+use Rattle.pl_rewrite.specs.declared.outcome.RowOutcome.{RowOutcome}
+use Rattle.pl_rewrite.specs.declared.outcome.RowOutcome.TheVariants as outcomes
+use Rattle.pl_rewrite.specs.declared.report.RowState.{RowState}
+use Rattle.pl_rewrite.specs.declared.report.RowState.TheVariants as states
+use Rattle.pl_rewrite.proofs.CandidateRowLaws.{table_with, walk_row}
+use Rattle.pl_rewrite.proofs.FirmRowLaws.{IsRowOf, row_of}
+use Rattle.pl_rewrite.proofs.LibraryAtLaws.{object_known}
+use Rattle.pl_rewrite.proofs.NewLaws.{library_state, program_state}
+use Rattle.pl_rewrite.proofs.NewLibraryLaws.{IsFirst, first_is, library_firm}
+use Rattle.pl_rewrite.proofs.OutcomeLaws.{by_cause, current_is, large_is, new_is, no_cause, skipped_is}
+use Rattle.pl_rewrite.proofs.RowByRowLaws.{zip_each}
+use Rattle.pl_rewrite.proofs.PlannedFileLaws.{library_numbers, meant_is, planned_two}
+use Rattle.pl_rewrite.proofs.StaleRowLaws.{column, stale_candidate, stale_flag}
+use Rattle.pl_rewrite.proofs.WholeLaws.{library_made}
+
+entry_of : (region : Range) (ts : List Taken) (x : Taken) → IsRow region ts x → x.entry ≡ entry_in x.bytes
+unfolding taken_of
+entry_of region ts x known = ap (λ (t : Taken). t.entry) known.taken.is
+
+-- a file that is not prelinked is its own original
+pub no_mark : (x : Taken) → marked_in x.bytes ≡ None → put (Some x.bytes) x.name (Some (original_in x.bytes)) ≡ None
+unfolding original_in
+no_mark x none =
+    let same : original_or_file x.bytes (marked_in x.bytes) ≡ x.bytes = ap (original_or_file x.bytes) none in
+    ap (λ (bs : List ℕ). put (Some x.bytes) x.name (Some bs)) same ∙ ap (λ (b : Bool). if b then None else Some (Put x.name x.bytes)) (eq_refl x.bytes)
+
+-- one that is gets what its mark tells
+pub put_mark : (x : Taken) (m : Marked) (name old own original : List ℕ) → Some m ≡ marked_in x.bytes → name ≡ x.name → old ≡ x.bytes → own ≡ m.original → original ≡ own → put (Some old) name (Some original) ≡ put_original x
+unfolding original_in
+put_mark x m name old own original mark named before told copied =
+    let same : m.original ≡ original_or_file x.bytes (marked_in x.bytes) = ap (original_or_file x.bytes) mark in
+    ap (λ (bs : List ℕ). put (Some bs) name (Some original)) before
+    ∙ (ap (λ (k : List ℕ). put (Some x.bytes) k (Some original)) named ∙ ap (λ (bs : List ℕ). put (Some x.bytes) x.name (Some bs)) (copied ∙ (told ∙ same)))
+
+abbrev make : Option Change → RowState → Bool → Made
+make change state given = record { change = change; state = state; given = given }
+
+-- ---- the parts of a new library
+
+-- the member that is made by them
+member_parts : (t : Taken) (parts : NewLibrary) (o : Object) (slot stamp : ℕ) → parts.slot ≡ slot → parts.stamp ≡ stamp → (n : Numbered) (row : ℕ) → slot ≡ number_at n.places.now row → stamp ≡ number_at n.stamps.now row → firm_of t parts Two o ≡ firm_by n row t o
+member_parts t parts o slot stamp first second n row place time =
+    ap (λ (s : ℕ). firm_of t (record { slot = s; stamp = parts.stamp; digest = parts.digest; list = parts.list; words = parts.words }) Two o) (first ∙ place)
+    ∙ ap (λ (s : ℕ). firm_of t (record { slot = number_at n.places.now row; stamp = s; digest = parts.digest; list = parts.list; words = parts.words }) Two o) (second ∙ time)
+
+-- its form does not depend on its version
+form_again : (t : Taken) (parts : NewLibrary) (o : Object) (version : Version) → HasFormWith (firm_of t parts Two o) parts.list parts.words → HasFormWith (firm_of t parts version o) parts.list parts.words
+form_again t parts o version has = record { firm = has.firm; even = has.even; list = has.list; words = has.words }
+
+module _ (n : Numbered) (links : List Link) (causes : List (Option Skip)) (a : Asked) (p : RowPlan) (stale : List Bool) (is : IsRunTable a.region (table_with n links causes)) (plan : IsPlan (table_with n links causes) a p) (places : n.places.now ≡ p.places) (stamps : n.stamps.now ≡ p.stamps)
+    (flags : stale ≡ p.stale) where
+  abbrev files : sound.Files
+  files = files_in n.files.now
+
+  abbrev run : plans.RunPlan
+  run = planned_by (table_with n links causes) p
+
+  -- what the run makes of the file
+  abbrev meant : Taken → Made
+  meant x = made_in files a.region run x.name
+
+  known : (row : ℕ) (x : Taken) → slice_get n.files.now row ≡ Some x → IsRow a.region n.files.now x
+  known row x at = row_is a.region n.files.now row x is.taken at
+
+  -- ---- a stale file
+
+  named_stale : (row : ℕ) (x : Taken) → slice_get n.files.now row ≡ Some x → spec.is_stale stale row ≡ true → plans.is_stale files a.region p.slots x.name ≡ true
+  named_stale row x at on = sym (stale_flag n links causes a p stale is plan flags row x at) ∙ on
+
+  candidate : (row : ℕ) → spec.is_stale stale row ≡ true → is_candidate (table_with n links causes) row ≡ true
+  candidate row on = stale_candidate n links causes a p stale is plan flags row on
+
+  -- one that is too large
+  large_made : (row : ℕ) (x : Taken) → slice_get n.files.now row ≡ Some x → spec.is_stale stale row ≡ true → None ≡ changes.prelinked files a.region run x.name → made_original x (too_large x) ≡ meant x
+  large_made row x at on none = sym (large_is files a.region run x.name x.bytes (known row x at).file (named_stale row x at on) none)
+
+  program_made : (row : ℕ) (x : Taken) (made : NewProgram) → slice_get n.files.now row ≡ Some x → spec.is_stale stale row ≡ true → is_library_row n row ≡ false → made.conflicts ≡ conflicts_in made.file.items → Some made.file.items ≡ changes.prelinked files a.region run x.name
+      → made_program x made ≡ meant x
+  unfolding changes.prelinked
+  program_made row x made at on other rows new =
+      let walk : IsWalkRow n row = walk_row n links causes a is row (candidate row on) in
+      let first : IsFirst n row = first_is n row walk in
+      let f : IsRowOf n row first.firm = row_of n row first.firm first.at in
+      let same : f.taken ≡ x = same_Some f.taken x (sym f.at ∙ at) in
+      let there : object_by x.entry ≡ Some first.firm.object = ap (λ (y : Taken). object_by y.entry) (sym same) ∙ f.object in
+      let object : objects (format skip_causes) files x.name ≡ Ok first.firm.object = (known row x at).object ∙ object_known x.name x.entry first.firm.object there in
+      let kind : is_library first.firm.object.kind ≡ false = sym (ap (of_firm false (λ (r : Firm). is_library r.object.kind)) first.at) ∙ other in
+      let state : states.Program false made.conflicts ≡ reports.state_in x.name false (marked_in made.file.items) =
+      ap (λ (count : ℕ). states.Program false count) rows ∙ program_state files (changes.numbers files a.region run) x.name x.bytes made.file.items first.firm.object (known row x at).file object kind new in
+      ap (λ (s : RowState). make (put (Some x.bytes) x.name (Some made.file.items)) s true) state
+      ∙ sym (new_is files a.region run x.name x.bytes (known row x at).file made.file.items (named_stale row x at on) new)
+
+  -- the file of a new library is the one that is planned
+  library_row : (row : ℕ) (x : Taken) (parts : NewLibrary) → slice_get n.files.now row ≡ Some x → (new : IsNew n row parts) → IsRowOf n row new.firm
+  library_row row x parts at new = row_of n row new.firm new.at
+
+  same_file : (row : ℕ) (x : Taken) (parts : NewLibrary) → slice_get n.files.now row ≡ Some x → (new : IsNew n row parts) → (library_row row x parts at new).taken ≡ x
+  same_file row x parts at new = same_Some (library_row row x parts at new).taken x (sym (library_row row x parts at new).at ∙ at)
+
+  library_object : (row : ℕ) (x : Taken) (parts : NewLibrary) → (at : slice_get n.files.now row ≡ Some x) → (new : IsNew n row parts) → object_by x.entry ≡ Some new.firm.object
+  library_object row x parts at new = ap (λ (y : Taken). object_by y.entry) (sym (same_file row x parts at new)) ∙ (library_row row x parts at new).object
+
+  library_firm_is : (row : ℕ) (x : Taken) (parts : NewLibrary) → (at : slice_get n.files.now row ≡ Some x) → (new : IsNew n row parts) → firm_by n row x new.firm.object ≡ new.firm
+  library_firm_is row x parts at new = ap (λ (y : Taken). firm_by n row y new.firm.object) (sym (same_file row x parts at new)) ∙ (library_row row x parts at new).is
+
+  made_firm : (row : ℕ) (x : Taken) (parts : NewLibrary) → (at : slice_get n.files.now row ≡ Some x) → (new : IsNew n row parts) → firm_of x parts Two new.firm.object ≡ new.firm
+  made_firm row x parts at new =
+      let firm : firm_by n row x new.firm.object ≡ new.firm = library_firm_is row x parts at new in
+      member_parts x parts new.firm.object new.firm.member.slot new.firm.member.stamp new.slot new.stamp n row (sym (ap (λ (r : Firm). r.member.slot) firm)) (sym (ap (λ (r : Firm). r.member.stamp) firm)) ∙ firm
+
+  library_may : (row : ℕ) (x : Taken) (parts : NewLibrary) → slice_get n.files.now row ≡ Some x → IsNew n row parts → HasForm x parts
+  library_may row x parts at new =
+      let has : HasFormWith (firm_of x parts Two new.firm.object) parts.list parts.words = subst (λ (r : Firm). HasFormWith r parts.list parts.words) (sym (made_firm row x parts at new)) new.form in
+      let original : new.firm.member.original ≡ original_in x.bytes = ap (λ (r : Firm). r.member.original) (sym (library_firm_is row x parts at new)) in
+      subst (HasFormBy x parts) (sym (library_object row x parts at new)) (λ version. (form_again x parts new.firm.object version has, new.digest ∙ ap sha256 original))
+
+  library_file_is : (row : ℕ) (x : Taken) (parts : NewLibrary) → slice_get n.files.now row ≡ Some x → spec.is_stale stale row ≡ true → is_library_row n row ≡ true → are_set (firms_of n row) ≡ true → IsNew n row parts
+      → storable_library x parts Two ≡ changes.prelinked files a.region run x.name
+  library_file_is row x parts at on library set new =
+      let walk : IsWalkRow n row = walk_row n links causes a is row (candidate row on) in
+      let first : IsFirst n row = first_is n row walk in
+      let r : Firm = first.firm in
+      let rs : List Firm = first.others in
+      let same : new.firm ≡ r = same_Some new.firm r (sym new.at ∙ first.at) in
+      let list : parts.list ≡ list_of rs = new.list ∙ ap (λ (ms : List Firm). list_of (drop 1 ms)) first.is in
+      let words : parts.words ≡ own_words (objects_of (r ∷ rs)) (slots_of (r ∷ rs)) = new.words ∙ ap (λ (ms : List Firm). own_words (objects_of ms) (slots_of ms)) first.is in
+      let file : stored (Some (file_with (firm_of x parts Two new.firm.object) parts.list parts.words)) ≡ stored (Some (file_with r (list_of rs) (own_words (objects_of (r ∷ rs)) (slots_of (r ∷ rs))))) =
+      ap (λ (m : Firm). stored (Some (file_with m parts.list parts.words))) (made_firm row x parts at new ∙ same)
+      ∙ (ap (λ (ls : List ListRow). stored (Some (file_with r ls parts.words))) list ∙ ap (λ (ws : List (Option ℕ)). stored (Some (file_with r (list_of rs) ws))) words) in
+      let kind : is_library r.object.kind ≡ true = library_firm n row r first.at library in
+      let whole : stored (Some (file_with r (list_of rs) (own_words (objects_of (r ∷ rs)) (slots_of (r ∷ rs))))) ≡ prelinked (members (r ∷ rs)) =
+      library_made r rs (subst AreSources first.is walk.sources) kind (subst (λ (ms : List Firm). are_set ms ≡ true) first.is set) in
+      ap (option_and_then (λ (o : Object). stored (Some (file_with (firm_of x parts Two o) parts.list parts.words)))) (library_object row x parts at new)
+      ∙ (file ∙ (whole ∙ (ap (λ (ms : List Firm). prelinked (members ms)) (sym first.is) ∙ planned_two n links causes a p is plan places stamps row x (candidate row on) at)))
+
+  library_made_with : (row : ℕ) (x : Taken) (parts : NewLibrary) (file : Option (List ℕ)) → slice_get n.files.now row ≡ Some x → spec.is_stale stale row ≡ true → is_library_row n row ≡ true → IsNew n row parts → file ≡ changes.prelinked files a.region run x.name → made_with x parts file ≡ meant x
+  unfolding changes.prelinked
+  library_made_with row x parts None at on library new none = large_made row x at on none
+  library_made_with row x parts (Some file) at on library new some =
+      let kind : is_library new.firm.object.kind ≡ true = library_firm n row new.firm new.at library in
+      let numbers = library_numbers n links causes a p is plan places stamps row x new.firm.object (candidate row on) at (library_object row x parts at new) kind in
+      let firm : firm_by n row x new.firm.object ≡ new.firm = library_firm_is row x parts at new in
+      let slot : parts.slot ≡ (changes.numbers files a.region run).slot x.name = new.slot ∙ (sym (ap (λ (r : Firm). r.member.slot) firm) ∙ numbers.0) in
+      let stamp : parts.stamp ≡ (changes.numbers files a.region run).stamp x.name = new.stamp ∙ (sym (ap (λ (r : Firm). r.member.stamp) firm) ∙ numbers.1) in
+      let row_known : IsRow a.region n.files.now x = known row x at in
+      let entry : is_library_entry (entry_in x.bytes) ≡ true = ap is_library_entry (sym (entry_of a.region n.files.now x row_known)) ∙ (library_entry x.entry new.firm.object (library_object row x parts at new) ∙ kind) in
+      let state : states.Library false parts.slot parts.stamp ≡ reports.state_in x.name false (marked_in file) =
+      ap (λ (s : ℕ). states.Library false s parts.stamp) slot
+      ∙ (ap (λ (s : ℕ). states.Library false ((changes.numbers files a.region run).slot x.name) s) stamp
+      ∙ library_state files (changes.numbers files a.region run) x.name x.bytes file row_known.file entry some) in
+      ap (λ (s : RowState). make (put (Some x.bytes) x.name (Some file)) s true) state
+      ∙ sym (new_is files a.region run x.name x.bytes row_known.file file (named_stale row x at on) some)
+
+  pub stale_outcome : (row : ℕ) (x : Taken) (o : RowOutcome) → slice_get n.files.now row ≡ Some x → spec.is_stale stale row ≡ true → IsMadeAt n row o → IsOutcome files a.region run x o
+  stale_outcome row x (outcomes.Unchanged state) at on made = absurd made
+  stale_outcome row x (outcomes.Original cause) at on made =
+      let none : None ≡ changes.prelinked files a.region run x.name = meant_is n links causes a p is plan places stamps row x None (candidate row on) at made.1 in
+      record { may = tt; meant = ap (made_original x) (made.0 x at) ∙ large_made row x at on none }
+  stale_outcome row x (outcomes.Program program) at on made =
+      let new : Some program.file.items ≡ changes.prelinked files a.region run x.name = meant_is n links causes a p is plan places stamps row x (Some program.file.items) (candidate row on) at made.1.0 in
+      record { may = tt; meant = program_made row x program at on made.0 made.1.1 new }
+  stale_outcome row x (outcomes.Library parts) at on made =
+      record {
+        may = library_may row x parts at made.1.1;
+        meant = library_made_with row x parts (storable_library x parts Two) at on made.0 made.1.1 (library_file_is row x parts at on made.0 made.1.0 made.1.1);
+      }
+
+  -- ---- a file that is not stale
+
+  cause_at : (row : ℕ) (x : Taken) (c : Option Skip) → slice_get n.files.now row ≡ Some x → slice_get causes row ≡ Some c → plans.cause_of (skip_of files a.region x.name) ≡ c
+  cause_at row x c at told =
+      same_Some (plans.cause_of (skip_of files a.region x.name)) c
+      (sym (ap (λ (cs : List (Option Skip)). slice_get cs row) is.causes
+      ∙ (slice_get-map (λ (y : Taken). plans.cause_of (skip_of files a.region y.name)) n.files.now row ∙ ap (option_map (λ (y : Taken). plans.cause_of (skip_of files a.region y.name))) at)) ∙ told)
+
+  fresh_made : (row : ℕ) (x : Taken) (c : Option Skip) (m : Option Marked) → slice_get n.files.now row ≡ Some x → slice_get causes row ≡ Some c → spec.is_stale stale row ≡ false → marked_in x.bytes ≡ m → made_by x (kept_by x c m) ≡ meant x
+  fresh_made row x (Some cause) m at told off mark = sym (skipped_is files a.region run x.name x.bytes (known row x at).file cause (by_cause (skip_of files a.region x.name) cause (cause_at row x (Some cause) at told)))
+  fresh_made row x None None at told off mark =
+      let ok : plans.is_candidate files a.region x.name ≡ true = candidate_is a.region files x.name ∙ no_cause (skip_of files a.region x.name) (cause_at row x None at told) in
+      let fresh : plans.is_stale files a.region p.slots x.name ≡ false = sym (stale_flag n links causes a p stale is plan flags row x at) ∙ off in
+      ap (λ (change : Option Change). make change (states.Skipped (too_large x)) false) (no_mark x mark)
+      ∙ (ap (λ (k : Option Marked). make None (reports.state_in x.name true k) false) (sym mark)
+      ∙ sym (current_is files a.region run x.name x.bytes (known row x at).file ok fresh))
+  fresh_made row x None (Some m) at told off mark =
+      let ok : plans.is_candidate files a.region x.name ≡ true = candidate_is a.region files x.name ∙ no_cause (skip_of files a.region x.name) (cause_at row x None at told) in
+      let fresh : plans.is_stale files a.region p.slots x.name ≡ false = sym (stale_flag n links causes a p stale is plan flags row x at) ∙ off in
+      ap (λ (k : Option Marked). make None (reports.state_in x.name true k) false) (sym mark)
+      ∙ sym (current_is files a.region run x.name x.bytes (known row x at).file ok fresh)
+
+  kept_may : (x : Taken) (c : Option Skip) (m : Option Marked) → MayBe x (kept_by x c m)
+  kept_may x (Some cause) m = tt
+  kept_may x None None = tt
+  kept_may x None (Some m) = tt
+
+  pub fresh_outcome : (row : ℕ) (x : Taken) (c : Option Skip) (o : RowOutcome) → slice_get n.files.now row ≡ Some x → slice_get causes row ≡ Some c → spec.is_stale stale row ≡ false → KeepsFile x c o → IsOutcome files a.region run x o
+  fresh_outcome row x c o at told off keeps =
+      let mark : marked_by x.entry ≡ marked_in x.bytes = marked_read x (entry_of a.region n.files.now x (known row x at)) in
+      let made : made_by x (kept_by x c (marked_by x.entry)) ≡ meant x = fresh_made row x c (marked_by x.entry) at told off (sym mark) in
+      subst (IsOutcome files a.region run x) (sym keeps) (record { may = kept_may x c (marked_by x.entry); meant = made })
+
+  -- ---- each row
+
+  pub each_outcome : (row : ℕ) (x : Taken) (c : Option Skip) (made : Option RowOutcome) (o : RowOutcome) → slice_get n.files.now row ≡ Some x → slice_get causes row ≡ Some c → spec.IsIf (spec.is_stale stale row) (IsMadeAt n row) made → spec.IsOutcomeFor x c made o → IsOutcome files a.region run x o
+  each_outcome row x c made o at told if_stale so = elim (cases_Bool (spec.is_stale stale row)) [
+    | inl on ↦ made_stale row x c made o at on (subst (λ (b : Bool). spec.IsIf b (IsMadeAt n row) made) on if_stale) so
+    | inr off ↦ made_fresh row x c made o at told off (subst (λ (b : Bool). spec.IsIf b (IsMadeAt n row) made) off if_stale) so
+  ]
+    where
+      made_stale : (row : ℕ) (x : Taken) (c : Option Skip) (made : Option RowOutcome) (o : RowOutcome) → slice_get n.files.now row ≡ Some x → spec.is_stale stale row ≡ true → spec.IsIf true (IsMadeAt n row) made → spec.IsOutcomeFor x c made o → IsOutcome files a.region run x o
+      made_stale row x c None o at on given is_for = absurd given
+      made_stale row x c (Some m) o at on given is_for = subst (IsOutcome files a.region run x) (sym is_for) (stale_outcome row x m at on given)
+
+      made_fresh : (row : ℕ) (x : Taken) (c : Option Skip) (made : Option RowOutcome) (o : RowOutcome) → slice_get n.files.now row ≡ Some x → slice_get causes row ≡ Some c → spec.is_stale stale row ≡ false → made ≡ None → spec.IsOutcomeFor x c made o → IsOutcome files a.region run x o
+      made_fresh row x c made o at told off none is_for = fresh_outcome row x c o at told off (subst (λ (m : Option RowOutcome). spec.IsOutcomeFor x c m o) none is_for)
+
+  pub rows_are : (made : List (Option RowOutcome)) (os : List RowOutcome) → spec.AreMade n stale made → spec.AreAll n.files.now causes made os → AllZip (IsOutcome files a.region run) n.files.now os
+  rows_are made os are all =
+      let told : length causes ≡ length n.files.now = ap length is.causes ∙ length-map n.files.now (λ (x : Taken). plans.cause_of (skip_of files a.region x.name)) in
+      let each_flag : length stale ≡ length n.files.now = (column n links causes a p stale is plan flags).count in
+      zip_each (IsOutcome files a.region run) n.files.now os all.count (λ i x o at there.
+      let lt : i < length n.files.now = slice_get_within n.files.now i x at in
+      let c = slice_get_at causes i (omega (arith, lt, told)) in
+      let m = slice_get_at made i (omega (arith, lt, are.count, each_flag)) in
+      each_outcome i x c.0 m.0 o at c.1 (are.each i m.0 m.1) (all.each i x c.0 m.0 o at c.1 m.1 there))
+
+-- ---- a table whose columns are lent
+
+abbrev pub with_walks : RunTable → List (List ℕ) → RunTable
+with_walks t walks = record { files = t.files; walks = walks; index = t.index; links = t.links; causes = t.causes }
+
+pub table_again : (region : Range) (t : RunTable) (walks : List (List ℕ)) → walks ≡ t.walks → IsRunTable region t → IsRunTable region (with_walks t walks)
+table_again region t walks same is =
+    let again : IsRunTable region (with_walks t t.walks) = record { taken = is.taken; walks = is.walks; index = is.index; sized = is.sized; links = is.links; causes = is.causes } in
+    subst (λ (ws : List (List ℕ)). IsRunTable region (with_walks t ws)) (sym same) again
+
+pub plan_again : (t : RunTable) (walks : List (List ℕ)) (a : Asked) (p : RowPlan) → IsPlan t a p → IsPlan (with_walks t walks) a p
+plan_again t walks a p plan = record { places = plan.places; programs = plan.programs; stale = plan.stale; stamps = plan.stamps }
