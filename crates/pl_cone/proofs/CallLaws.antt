@@ -15,7 +15,7 @@ use Rattle.pl_slots.specs.declared.slot.Slot.{Slot}
 use Rattle.law_sound.specs.Rule.{objects, object_at}
 use Rattle.pl_cone.specs.Calls.{caused, caused_at, cone, places_of, stale_of, stamp_of}
 use Rattle.pl_cone.specs.Candidates.{fit}
-use Rattle.pl_cone.specs.Currency.{greatest, run_stamp, stale_rows}
+use Rattle.pl_cone.specs.Currency.{greatest_of_files, run_stamp, stale_rows}
 use Rattle.pl_cone.specs.Plans as plans
 use Rattle.pl_cone.specs.Plans.{cause_of, is_stale, slot_of, stamp_after}
 use Rattle.pl_cone.specs.Skipped.{skip_causes, skip_of}
@@ -73,8 +73,8 @@ cone_stamp region t slots places last now is placed =
     let ts : List Taken = t.files.now in
     let p : List ℕ → Bool = is_stale (files_in ts) region slots in
     ap (λ (flags : List Bool). run_stamp ts flags last now) (stale_column region t slots places is placed)
-    ∙ (by_any (list_any (λ b. b) (map (λ x. p x.name) ts)) last (stamp_after (greatest last ts) now)
-    ∙ (ap (λ (b : Bool). if b then Ok last else stamp_after (greatest last ts) now) (sym (any_flagged p ts))
+    ∙ (by_any (list_any (λ b. b) (map (λ x. p x.name) ts)) last (stamp_after (greatest_of_files last ts) now)
+    ∙ (ap (λ (b : Bool). if b then Ok last else stamp_after (greatest_of_files last ts) now) (sym (any_flagged p ts))
     ∙ ap (λ (most : ℕ). if length (filter p (files.names_of ts)) == 0 then Ok last else stamp_after most now) (greatest_is region ts last is.taken)))
 
 pub cone_names : (region : Range) (t : RunTable) (slots : List Slot) (places : List ℕ) → IsRunTable region t → places ≡ places_of slots t.files.now → names_where t.files.now (stale_rows t places) ≡ stale_of region t slots

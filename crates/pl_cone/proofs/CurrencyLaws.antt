@@ -21,14 +21,14 @@ use Rattle.law_sound.specs.Plan as sound
 use Rattle.law_sound.specs.Plan.{is_library_at}
 use Rattle.law_sound.specs.Rule as rule
 use Rattle.law_sound.specs.Rule.{Mark, Row, mark_at, matches, members, names_of, objects, stamp_of, tells_walk, walk_in}
-use Rattle.pl_cone.specs.Currency.{all_held, is_held, stamps_of, greatest, greatest_by, greatest_in, greatest_of, held_at, held_rows, is_held_row, is_set, next_stamp, old_stamp, run_stamp, stale_at, stale_rows, stamp_at, stamp_by, stamp_in}
+use Rattle.pl_cone.specs.Currency.{all_held, is_held, stamps_of, greatest_of_files, greatest_by, greatest_in, greatest_of_file, held_at, held_rows, is_held_row, is_set, next_stamp_of_file, old_stamp, run_stamp, stale_at, stale_rows, stamp_at, stamp_by, stamp_in}
 use Rattle.pl_cone.specs.Candidates.{fit}
 use Rattle.pl_cone.specs.Faulted.{of_cone}
 use Rattle.pl_cone.specs.Fits.{fit_in}
 use Rattle.pl_cone.specs.Plans as plans
 use Rattle.pl_cone.specs.Plans.{cause_of, is_stale, slot_of, stamp_after, stale}
 use Rattle.pl_cone.specs.Skipped.{skip_causes, skip_of}
-use Rattle.pl_cone.specs.Table.{faults_of, AreRows, AreWalks, IsRunTable, has_no_cause, is_candidate, names_by, names_where, refusals_in, rows_in, walk_for, walk_of, walked_by}
+use Rattle.pl_cone.specs.Table.{faults_of, AreRows, AreWalks, IsRunTable, has_no_cause, is_candidate_row, names_by, names_where, refusals_in, rows_in, walk_for, walk_of, walked_by}
 use Rattle.pl_cone.specs.Taken as files
 use Rattle.pl_cone.specs.Taken.{AreTaken, files_in, is_library_entry, marked_by}
 use Rattle.pl_cone.specs.declared.asked.Asked.{Asked}
@@ -72,7 +72,7 @@ cause_at region t row x is at =
     ∙ ap (option_map (λ (y : Taken). cause_of (skip_of (files_in t.files.now) region y.name))) at)
 
 -- a row may be prelinked where its name may
-pub candidate_row : (region : Range) (t : RunTable) (row : ℕ) (x : Taken) → IsRunTable region t → slice_get t.files.now row ≡ Some x → is_candidate t row ≡ plans.is_candidate (files_in t.files.now) region x.name
+pub candidate_row : (region : Range) (t : RunTable) (row : ℕ) (x : Taken) → IsRunTable region t → slice_get t.files.now row ≡ Some x → is_candidate_row t row ≡ plans.is_candidate (files_in t.files.now) region x.name
 candidate_row region t row x is at =
     ap has_no_cause (cause_at region t row x is at) ∙ (no_cause (skip_of (files_in t.files.now) region x.name) ∙ sym (candidate_is region (files_in t.files.now) x.name))
 
@@ -209,14 +209,14 @@ greatest_seen : (k : Option form.Marked) → greatest_by k ≡ plans.greatest_of
 greatest_seen None = refl
 greatest_seen (Some m) = sym (fold-map (λ (most : ℕ) (r : Row). max most r.stamp) row_of_list m.stamp m.list)
 
-greatest_row : (region : Range) (ts : List Taken) → AreTaken region ts → (i : ℕ) (x : Taken) → slice_get ts i ≡ Some x → greatest_of x ≡ plans.greatest_of (mark_at (format skip_causes) (files_in ts x.name))
+greatest_row : (region : Range) (ts : List Taken) → AreTaken region ts → (i : ℕ) (x : Taken) → slice_get ts i ≡ Some x → greatest_of_file x ≡ plans.greatest_of (mark_at (format skip_causes) (files_in ts x.name))
 greatest_row region ts taken i x at = greatest_seen (marked_by x.entry) ∙ sym (ap plans.greatest_of (row_is region ts i x taken at).mark)
 
-pub greatest_is : (region : Range) (ts : List Taken) (last : ℕ) → AreTaken region ts → greatest last ts ≡ plans.greatest (files_in ts) last (files.names_of ts)
+pub greatest_is : (region : Range) (ts : List Taken) (last : ℕ) → AreTaken region ts → greatest_of_files last ts ≡ plans.greatest (files_in ts) last (files.names_of ts)
 unfolding plans.greatest
 greatest_is region ts last taken =
     let meant : Taken → ℕ = λ x. plans.greatest_of (mark_at (format skip_causes) (files_in ts x.name)) in
-    fold_same greatest_of meant ts last (all_by_index (λ (x : Taken). greatest_of x ≡ meant x) ts (greatest_row region ts taken))
+    fold_same greatest_of_file meant ts last (all_by_index (λ (x : Taken). greatest_of_file x ≡ meant x) ts (greatest_row region ts taken))
     ∙ sym (fold-map (λ (most : ℕ) (n : List ℕ). max most (plans.greatest_of (mark_at (format skip_causes) (files_in ts n)))) (λ (x : Taken). x.name) last ts)
 
 by_any : (b : Bool) (last : ℕ) (r : Result ℕ ConeFault) → because of_cone (if b then r else Ok last) ≡ (if not b then Ok last else because of_cone r)
@@ -227,8 +227,8 @@ by_any false last r = refl
 pub stamp_is : (a : Asked) (ts : List Taken) (p : List ℕ → Bool) → AreTaken a.region ts → because of_cone (run_stamp ts (map (λ x. p x.name) ts) a.last a.moment) ≡ plans.stamp_for (files_in ts) (files.names_of ts) a (filter p (files.names_of ts))
 unfolding plans.stamp_for
 stamp_is a ts p taken =
-    by_any (list_any (λ b. b) (map (λ x. p x.name) ts)) a.last (stamp_after (greatest a.last ts) a.moment)
-    ∙ (ap (λ (b : Bool). if b then Ok a.last else because of_cone (stamp_after (greatest a.last ts) a.moment)) (sym (any_flagged p ts))
+    by_any (list_any (λ b. b) (map (λ x. p x.name) ts)) a.last (stamp_after (greatest_of_files a.last ts) a.moment)
+    ∙ (ap (λ (b : Bool). if b then Ok a.last else because of_cone (stamp_after (greatest_of_files a.last ts) a.moment)) (sym (any_flagged p ts))
     ∙ ap (λ (most : ℕ). if length (filter p (files.names_of ts)) == 0 then Ok a.last else because of_cone (stamp_after most a.moment)) (greatest_is a.region ts a.last taken))
 
 -- ---- the stamps of rows
@@ -255,6 +255,6 @@ stamps_are region ts slots stamp taken =
         let stale : Bool = is_stale (files_in ts) region slots x.name in
         let flag : slice_get flags i ≡ Some stale = slice_get-map (λ (y : Taken). is_stale (files_in ts) region slots y.name) ts i ∙ ap (option_map (λ (y : Taken). is_stale (files_in ts) region slots y.name)) at in
         ap (λ (y : Option Taken). stamp_in y (is_set (slice_get flags i)) stamp) at
-        ∙ (ap (λ (b : Option Bool). next_stamp x (is_set b) stamp) flag
+        ∙ (ap (λ (b : Option Bool). next_stamp_of_file x (is_set b) stamp) flag
         ∙ (ap (λ (old : ℕ). if is_library_entry x.entry then if stale then stamp else old else 0) (stamp_seen (marked_by x.entry) ∙ sym (ap stamp_of row.mark))
         ∙ ap (λ (b : Bool). if b then if stale then stamp else stamp_of (mark_at (format skip_causes) (files_in ts x.name)) else 0) (sym (ap is_library_at row.object ∙ library_at x.name x.entry))))

@@ -14,7 +14,7 @@ use Rattle.std.proofs.lemmas.List.Elements.{All-head, All-tail, All-nil, All-pus
 use Rattle.std.proofs.lemmas.Option.{none-some, same_Some, slice_get-map, slice_get_within, slice_get_read, get_or_from_slice_get}
 use Rattle.pl_base.proofs.FindLaws.{any_map}
 use Rattle.pl_scope.proofs.NameLaws.{same_name, eq_refl, eq_flip}
-use Rattle.pl_cone.specs.Needs.{words, told, AreNumbers, KeepNumbers, name_at, name_in, Tell, TellAll, needed_by, AreNeeds, all_names, all_needed, name_of, needed_at, numbers_at}
+use Rattle.pl_cone.specs.Needs.{words, told, AreNumbers, KeepNumbers, told_name, numbered_name, Tell, TellAll, needed_by, AreNeeds, all_names, all_needed, name_of, needed_at, numbers_at}
 use Rattle.pl_cone.specs.Taken.{names_of}
 use Rattle.pl_cone.specs.declared.needs.Needs.{Needs}
 use Rattle.pl_cone.specs.declared.taken.Taken.{Taken}
@@ -150,14 +150,14 @@ tell_on names more needed told on is = record { within = within told is.within; 
     within : (ns : List ℕ) → All (λ n. n < length names) ns → All (λ n. n < length more) ns
     within ns all = All-weaker (λ (n : ℕ). n < length names) (λ (n : ℕ). n < length more) below ns all
 
-    same : (ns : List ℕ) → All (λ n. n < length names) ns → map (name_in more) ns ≡ map (name_in names) ns
-    same ns all = map_same ns (name_in more) (name_in names) (λ k d lt. ap name_at (one (get_or ns k d) (all k d lt)))
+    same : (ns : List ℕ) → All (λ n. n < length names) ns → map (numbered_name more) ns ≡ map (numbered_name names) ns
+    same ns all = map_same ns (numbered_name more) (numbered_name names) (λ k d lt. ap told_name (one (get_or ns k d) (all k d lt)))
 
 -- one name more
 pub tell_push : (names needed : List (List ℕ)) (told : List ℕ) (name : List ℕ) (n : ℕ) → slice_get names n ≡ Some name → Tell names needed told → Tell names (needed ++ name ∷ []) (told ++ n ∷ [])
 tell_push names needed told name n at is = record {
   within = All-push (λ (k : ℕ). k < length names) told n is.within (slice_get_within names n name at);
-  are = map_push (name_in names) told n ∙ ap (λ (all : List (List ℕ)). all ++ name_in names n ∷ []) is.are ∙ ap (λ (m : List ℕ). needed ++ m ∷ []) (ap name_at at);
+  are = map_push (numbered_name names) told n ∙ ap (λ (all : List (List ℕ)). all ++ numbered_name names n ∷ []) is.are ∙ ap (λ (m : List ℕ). needed ++ m ∷ []) (ap told_name at);
 }
 
 -- the first names, and one more

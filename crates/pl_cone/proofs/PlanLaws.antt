@@ -19,8 +19,8 @@ use Rattle.pl_cone.specs.Plans as plans
 use Rattle.pl_cone.specs.Plans.{RunPlan, Standing, cause_of, is_stale, planned, slot_of, standing, standings, want_of}
 use Rattle.pl_cone.specs.Skipped.{skip_of}
 use Rattle.pl_cone.specs.Skips.{stops_memory}
-use Rattle.pl_cone.specs.Slots.{HaveWantedNames, count_before, is_there, object_told, position_at, position_if, positions, slots_by, start_at, want_in, wants}
-use Rattle.pl_cone.specs.Table.{IsPlan, IsRunTable, is_candidate, names_where, planned_by, standings_by}
+use Rattle.pl_cone.specs.Slots.{HaveWantedNames, count_before, is_there, object_told, position_at, position_if, positions, table_slots, start_at, want_in, table_wants}
+use Rattle.pl_cone.specs.Table.{IsPlan, IsRunTable, is_candidate_row, names_where, planned_by, standings_by}
 use Rattle.pl_cone.specs.Taken as files
 use Rattle.pl_cone.specs.Taken.{files_in, is_library_entry, object_by, object_of}
 use Rattle.pl_cone.specs.declared.asked.Asked.{Asked}
@@ -58,20 +58,20 @@ abbrev with_slots : Asked → List Taken → List Slot → Result RunPlan Planni
 with_slots a ts slots = plans.stamp_for (files_in ts) (files.names_of ts) a (plans.stale (files_in ts) a.region slots (files.names_of ts)) >>= λ stamp. with_stamp a ts slots stamp
 
 -- no slot is left
-pub plan_stops : (a : Asked) (t : RunTable) (e : PlanningFault) → IsRunTable a.region t → slots_by t a ≡ Err e → planned (files_in t.files.now) (files.names_of t.files.now) a ≡ Err e
+pub plan_stops : (a : Asked) (t : RunTable) (e : PlanningFault) → IsRunTable a.region t → table_slots t a ≡ Err e → planned (files_in t.files.now) (files.names_of t.files.now) a ≡ Err e
 unfolding planned
 plan_stops a t e is none = ap (λ (r : Result (List Slot) PlanningFault). r >>= with_slots a t.files.now) (sym (slots_are a t is) ∙ none)
 
-plan_with : (a : Asked) (t : RunTable) (slots : List Slot) → IsRunTable a.region t → slots_by t a ≡ Ok slots → planned (files_in t.files.now) (files.names_of t.files.now) a ≡ with_slots a t.files.now slots
+plan_with : (a : Asked) (t : RunTable) (slots : List Slot) → IsRunTable a.region t → table_slots t a ≡ Ok slots → planned (files_in t.files.now) (files.names_of t.files.now) a ≡ with_slots a t.files.now slots
 unfolding planned
 plan_with a t slots is there = ap (λ (r : Result (List Slot) PlanningFault). r >>= with_slots a t.files.now) (sym (slots_are a t is) ∙ there)
 
 -- the same, or a want of memory
-stops_with : (a : Asked) (t : RunTable) (e : PlanningFault) (b : Bool) → IsRunTable a.region t → MatchBool b ⊤ (slots_by t a ≡ Err e) → MatchBool b ⊤ (planned (files_in t.files.now) (files.names_of t.files.now) a ≡ Err e)
+stops_with : (a : Asked) (t : RunTable) (e : PlanningFault) (b : Bool) → IsRunTable a.region t → MatchBool b ⊤ (table_slots t a ≡ Err e) → MatchBool b ⊤ (planned (files_in t.files.now) (files.names_of t.files.now) a ≡ Err e)
 stops_with a t e true is answer = tt
 stops_with a t e false is answer = plan_stops a t e is answer
 
-pub slots_stop : (a : Asked) (t : RunTable) (e : PlanningFault) → IsRunTable a.region t → Answers is_memory (Err e) (slots_by t a) → AnswersAs (planned_by t) is_memory (Err e) (planned (files_in t.files.now) (files.names_of t.files.now) a)
+pub slots_stop : (a : Asked) (t : RunTable) (e : PlanningFault) → IsRunTable a.region t → Answers is_memory (Err e) (table_slots t a) → AnswersAs (planned_by t) is_memory (Err e) (planned (files_in t.files.now) (files.names_of t.files.now) a)
 slots_stop a t e is answer = stops_with a t e (is_memory e) is answer
 
 pub places_long : (t : RunTable) (slots : List Slot) (places : List ℕ) → places ≡ map (start_at slots) (positions t) → length places ≡ length t.files.now
@@ -96,9 +96,9 @@ want_if false want is = refl
 
 no_want : (t : RunTable) (row : ℕ) (x : Taken) → slice_get t.files.now row ≡ Some x → is_library_entry x.entry ≡ false → position_at t row ≡ None
 no_want t row x at out =
-    ap (λ (want : Option Want). position_if (is_there want) (count_before t row)) (want_if (is_candidate t row) (want_in (slice_get t.files.now row)) (ap want_in at ∙ none_wanted x.name x.entry out))
+    ap (λ (want : Option Want). position_if (is_there want) (count_before t row)) (want_if (is_candidate_row t row) (want_in (slice_get t.files.now row)) (ap want_in at ∙ none_wanted x.name x.entry out))
 
-pub no_slot : (region : Range) (t : RunTable) (slots : List Slot) (row : ℕ) (x : Taken) → IsRunTable region t → HaveWantedNames (wants t) slots → slice_get t.files.now row ≡ Some x → is_library_entry x.entry ≡ false → slot_of slots x.name ≡ 0
+pub no_slot : (region : Range) (t : RunTable) (slots : List Slot) (row : ℕ) (x : Taken) → IsRunTable region t → HaveWantedNames (table_wants t) slots → slice_get t.files.now row ≡ Some x → is_library_entry x.entry ≡ false → slot_of slots x.name ≡ 0
 no_slot region t slots row x is named at out =
     let ts : List Taken = t.files.now in
     let by_name : slice_get (map (λ (y : Taken). slot_of slots y.name) ts) row ≡ Some (slot_of slots x.name) = slice_get-map (λ (y : Taken). slot_of slots y.name) ts row ∙ ap (option_map (λ (y : Taken). slot_of slots y.name)) at in
@@ -110,8 +110,8 @@ no_slot region t slots row x is named at out =
 -- what is planned where libraries have slots, each row its place
 pub record Follows (a : Asked) (t : RunTable) (slots : List Slot) (places : List ℕ) (stale : List Bool) : Type 0 where
   pub table : IsRunTable a.region t
-  pub given : slots_by t a ≡ Ok slots
-  pub named : HaveWantedNames (wants t) slots
+  pub given : table_slots t a ≡ Ok slots
+  pub named : HaveWantedNames (table_wants t) slots
   pub laid : places ≡ map (start_at slots) (positions t)
   pub flagged : stale ≡ stale_rows t places
 

@@ -23,7 +23,7 @@ use Rattle.pl_scope.proofs.NameLaws.{same_name}
 use Rattle.pl_scope.proofs.WalkLaws.{walk_begins, walk_goes_on, walk_lacks, walk_stops, walk_ends}
 use Rattle.law_sound.specs.Rule as sound
 use Rattle.law_sound.specs.Rule.{objects}
-use Rattle.pl_cone.specs.Needs.{IsNumberWalk, IsMore, names_of, state, entered, entered_at, state_after, is_program_row, AreNeeds, AreNumberedFiles, all_names, name_of, name_at, object_at, object_for, object_by_number}
+use Rattle.pl_cone.specs.Needs.{IsNumberWalk, IsMore, walk_names, state, entered, entered_at, state_after, is_program_row, AreNeeds, AreNumberedFiles, all_names, name_of, told_name, object_at, object_for, object_by_number}
 use Rattle.pl_cone.specs.Skips.{skip_is_memory, of_walk}
 use Rattle.pl_cone.specs.Skipped.{skip_causes}
 use Rattle.pl_cone.specs.Table.{AreBelow, member_of, walked_by, AreRows, walk_for, walk_named, walk_at, IsWalkAt}
@@ -75,7 +75,7 @@ object_is n folder k lt = by (slice_get n.files.now k) refl
         let twice : i ≡ k = folder.needs.once i k (name_of n k) own (named n folder.needs k lt) in
         none-some t (sym at ∙ ap (slice_get n.files.now) (sym twice) ∙ there)))
     by (Some t) at =
-        let name : name_of n k ≡ t.name = ap name_at (folder.needs.files k t at) in
+        let name : name_of n k ≡ t.name = ap told_name (folder.needs.files k t at) in
         ap (object_named n) name ∙ (row_is folder.taken.0 n.files.now k t folder.taken.1 at).object
 
 -- ---- a walk that is under way
@@ -209,7 +209,7 @@ module _ (n : Needs) (folder : AreNumberedFiles n) (row i : ℕ) (w : walking.Nu
       member : walked_by n.files.now (number ∷ []) ≡ (name_of n number, o) ∷ []
       member =
           let file = file_of n number o object in
-          let name : file.0.name ≡ name_of n number = sym (ap name_at (folder.needs.files number file.0 file.1)) in
+          let name : file.0.name ≡ name_of n number = sym (ap told_name (folder.needs.files number file.0 file.1)) in
           let of_file : member_of (slice_get n.files.now number) ≡ Some (name_of n number, o) = ap member_of file.1 ∙ ap (option_map (λ (x : Object). (file.0.name, x))) file.2 ∙ ap (λ (m : List ℕ). Some (m, o)) name in
           rw of_file refl
 
@@ -248,7 +248,7 @@ module _ (n : Needs) (folder : AreNumberedFiles n) (row i : ℕ) (w : walking.Nu
 pub walk_at_is : (n : Needs) → AreNeeds n → (row : ℕ) → row < length n.files.now → walk_at n.files.now row ≡ scope.walk of_walk (object_named n) (name_of n row)
 walk_at_is n are row lt =
     let file = slice_get_at n.files.now row lt in
-    ap (walk_named n.files.now) file.1 ∙ ap (scope.walk of_walk (object_named n)) (sym (ap name_at (are.files row file.0 file.1)))
+    ap (walk_named n.files.now) file.1 ∙ ap (scope.walk of_walk (object_named n)) (sym (ap told_name (are.files row file.0 file.1)))
 
 pub max_is : MAX_MEMBERS ≡ 256
 max_is = refl

@@ -30,7 +30,7 @@ use Rattle.pl_cone.specs.OneWord.{GivesOneWordBy, GivesOneWord}
 use Rattle.pl_cone.specs.Plans.{cause_of}
 use Rattle.pl_cone.specs.Skipped.{skip_causes, skip_of}
 use Rattle.pl_cone.specs.Skips.{of_walk}
-use Rattle.pl_cone.specs.Table.{AreRows, AreWalks, IsRunTable, IsWalkOfFile, faults_of, folder_objects, has_no_cause, is_candidate, refusal_of, refusals_in, rows_in, walk_for, walk_of, walked_by}
+use Rattle.pl_cone.specs.Table.{AreRows, AreWalks, IsRunTable, IsWalkOfFile, faults_of, folder_objects, has_no_cause, is_candidate_row, refusal_of, refusals_in, rows_in, walk_for, walk_of, walked_by}
 use Rattle.pl_cone.specs.Taken.{AreTaken, files_in, names_of, object_by}
 use Rattle.pl_cone.specs.WalkRows.{GivesOneWordAt, HasOwnWalk, IsCandidateRow, IsLibraryOf}
 use Rattle.pl_cone.specs.declared.link.Link.{Link}
@@ -282,7 +282,7 @@ module _ (region : Range) (t : RunTable) (is : IsRunTable region t) where
       }
 
   -- what is known of a row that may be prelinked
-  pub candidate_known : (row : ℕ) → is_candidate t row ≡ true → IsCandidateRow t row
+  pub candidate_known : (row : ℕ) → is_candidate_row t row ≡ true → IsCandidateRow t row
   candidate_known row candidate =
       let cause : slice_get t.causes row ≡ Some None = no_cause (slice_get t.causes row) candidate in
       by_own row cause (candidate_walk row cause)
@@ -301,6 +301,6 @@ module _ (region : Range) (t : RunTable) (is : IsRunTable region t) where
       cause_at region t r lib.own.taken is lib.own.file ∙ ap (λ (x : Result (Unit {0}) Skip). Some (cause_of x)) (cause_fit region ts lib.own.taken.name inner is.taken lib.own.told ∙ fits)
 
   -- a row of its walk after the first may be prelinked too, and is a library's
-  pub member_candidate : (row m r : ℕ) → is_candidate t row ≡ true → (c : IsCandidateRow t row) → 0 < m → slice_get (row ∷ c.own.others) m ≡ Some r → is_candidate t r ≡ true
+  pub member_candidate : (row m r : ℕ) → is_candidate_row t row ≡ true → (c : IsCandidateRow t row) → 0 < m → slice_get (row ∷ c.own.others) m ≡ Some r → is_candidate_row t r ≡ true
   member_candidate row m r candidate c some at =
       ap has_no_cause (library_fits row r (no_cause (slice_get t.causes row) candidate) c (member_row region ts t.walks is.taken is.walks row c.own m r c.kind some at))

@@ -21,7 +21,7 @@ use Rattle.pl_scope.specs.Walking.{Walking, wants}
 use Rattle.pl_scope.specs.declared.fault.WalkFault.{WalkFault}
 use Rattle.pl_scope.specs.declared.fault.WalkFault.TheVariants as faults
 use Rattle.pl_scope.proofs.NameLaws.{same_name, eq_refl}
-use Rattle.pl_cone.specs.Needs.{IsPast, MayBeginNext, IsSeen, IsNumberWalk, checked, AreNameNumbers, IsMore, names_of, added, state, checked_at, entered, entered_at, state_after, is_program_row, is_program_file, is_program_object, AreNeeds, Tell, all_names, all_needed, name_of, name_at, needed_in, needed_by, needed_at, numbers_at, object_at, object_for, object_by_number}
+use Rattle.pl_cone.specs.Needs.{IsPast, MayBeginNext, IsSeen, IsNumberWalk, checked, AreNameNumbers, IsMore, walk_names, added, state, checked_at, entered, entered_at, state_after, is_program_row, is_program_file, is_program_object, AreNeeds, Tell, all_names, all_needed, name_of, told_name, needed_in, needed_by, needed_at, numbers_at, object_at, object_for, object_by_number}
 use Rattle.pl_base.proofs.AnswerLaws.{ok_same}
 use Rattle.pl_form.specs.declared.file.Entry.{Entry}
 use Rattle.pl_form.specs.declared.file.Entry.TheVariants.{There, BadMark, Refused}
@@ -74,7 +74,7 @@ front_kept first before after h k =
 
 module _ (n : Needs) (are : AreNeeds n) where
   pub named : (k : ℕ) → k < length (all_names n) → slice_get (all_names n) k ≡ Some (name_of n k)
-  named k lt = let at = slice_get_at (all_names n) k lt in at.1 ∙ ap (λ (m : List ℕ). Some m) (sym (ap name_at at.1))
+  named k lt = let at = slice_get_at (all_names n) k lt in at.1 ∙ ap (λ (m : List ℕ). Some m) (sym (ap told_name at.1))
 
   same_number : (i j : ℕ) → i < length (all_names n) → j < length (all_names n) → bytes_eq (name_of n i) (name_of n j) ≡ (i == j)
   same_number i j first second =
@@ -259,7 +259,7 @@ module _ (n : Needs) (w : walking.NumberWalk) (o : Object) (number : ℕ) where
     check_needed are first needs b library at first_is needed all lt has =
         let name = name_of n first in
         let program : is_program_row n (slice_get w.numbers.items 0) ≡ true = ap (is_program_row n) at ∙ first_is in
-        let named : slice_get (names_of n w) 0 ≡ Some name = slice_get-map (name_of n) w.numbers.items 0 ∙ rw at refl in
+        let named : slice_get (walk_names n w) 0 ≡ Some name = slice_get-map (name_of n) w.numbers.items 0 ∙ rw at refl in
         let among : list_any (λ m. bytes_eq m name) o.needed ≡ b = ap (list_any (λ m. bytes_eq m name)) needed ∙ has_number n are needs first all lt ∙ has in
         let found : find (λ m. bytes_eq m name) o.needed ≡ cond b (Some name) None = found_name name o.needed ∙ ap (λ (c : Bool). cond c (Some name) None) among in
         rw (lt-ltb 0 index later, library, program, named, found) (either b name)
@@ -278,18 +278,18 @@ run_because n names (k ∷ ks) = because_bind (scope.added names (name_of n k)) 
 -- the object is looked at, and its names are added
 pub entered_is : (n : Needs) (index : ℕ) (w : walking.NumberWalk) (number : ℕ) (o : Object) (needs : List ℕ) → o.needed ≡ map (name_of n) needs
     → because of_walk (scope.entered (state n index w) (name_of n number) o)
-    ≡ (because of_walk (scope.checked (state n index w) (name_of n number) o) >>= λ _. run (added n) (names_of n w) needs >>= λ names. Ok (next (state n index w) o names))
+    ≡ (because of_walk (scope.checked (state n index w) (name_of n number) o) >>= λ _. run (added n) (walk_names n w) needs >>= λ names. Ok (next (state n index w) o names))
 unfolding scope.entered
 entered_is n index w number o needs needed =
-    because_bind (scope.checked (state n index w) (name_of n number) o) (λ _. run scope.added (names_of n w) o.needed >>= λ names. Ok (next (state n index w) o names))
-    (λ _. run (added n) (names_of n w) needs >>= λ names. Ok (next (state n index w) o names)) (λ _. after)
+    because_bind (scope.checked (state n index w) (name_of n number) o) (λ _. run scope.added (walk_names n w) o.needed >>= λ names. Ok (next (state n index w) o names))
+    (λ _. run (added n) (walk_names n w) needs >>= λ names. Ok (next (state n index w) o names)) (λ _. after)
   where
-    added_is : because of_walk (run scope.added (names_of n w) o.needed) ≡ run (added n) (names_of n w) needs
-    added_is = ap (λ (ns : List (List ℕ)). because of_walk (run scope.added (names_of n w) ns)) needed ∙ run_because n (names_of n w) needs
+    added_is : because of_walk (run scope.added (walk_names n w) o.needed) ≡ run (added n) (walk_names n w) needs
+    added_is = ap (λ (ns : List (List ℕ)). because of_walk (run scope.added (walk_names n w) ns)) needed ∙ run_because n (walk_names n w) needs
 
-    after : because of_walk (run scope.added (names_of n w) o.needed >>= λ names. Ok (next (state n index w) o names)) ≡ (run (added n) (names_of n w) needs >>= λ names. Ok (next (state n index w) o names))
+    after : because of_walk (run scope.added (walk_names n w) o.needed >>= λ names. Ok (next (state n index w) o names)) ≡ (run (added n) (walk_names n w) needs >>= λ names. Ok (next (state n index w) o names))
     after =
-        because_bind (run scope.added (names_of n w) o.needed) (λ names. Ok (next (state n index w) o names)) (λ names. Ok (next (state n index w) o names)) (λ names. refl)
+        because_bind (run scope.added (walk_names n w) o.needed) (λ names. Ok (next (state n index w) o names)) (λ names. Ok (next (state n index w) o names)) (λ names. refl)
         ∙ ap (λ (r : Result (List (List ℕ)) Skip). r >>= λ names. Ok (next (state n index w) o names)) added_is
 
 -- a library is no program
@@ -344,22 +344,22 @@ module _ (n : Needs) (index : ℕ) (before after : walking.NumberWalk) (number :
       by_kind true library = rw (library_only o.kind library, lt-ltb 0 (suc i) (omega arith)) (or_none (is_program_row n (slice_get before.numbers.items 0)))
       by_kind false other = absurd (err_ok (sym (check_other n before o number index (omega (arith, later)) other) ∙ checks))
 
-  next_is : next (state n index before) o (names_of n after) ≡ state_after n index after
+  next_is : next (state n index before) o (walk_names n after) ≡ state_after n index after
   next_is =
       let program : ((nat_lt 0 index && is_program_row n (slice_get before.numbers.items 0)) || is_program o.kind) ≡ (nat_lt 0 (index + 1) && is_program_row n (slice_get after.numbers.items 0)) =
       program_kept index refl ∙ ap (is_program_row n) (sym first_kept) ∙ ap (λ (b : Bool). b && is_program_row n (slice_get after.numbers.items 0)) (sym (lt-ltb 0 (index + 1) (omega arith))) in
       ap (λ (b : Bool). made (index + 1) b) program ∙ ap (λ (g : ℕ). made g (nat_lt 0 g && is_program_row n (slice_get after.numbers.items 0))) (sym given)
     where
       made : ℕ → Bool → Walking
-      made g b = record { names = names_of n after; given = g; program = b }
+      made g b = record { names = walk_names n after; given = g; program = b }
 
   -- all names were added
-  pub enters : (needs : List ℕ) → o.needed ≡ map (name_of n) needs → run (added n) (names_of n before) needs ≡ Ok (names_of n after) → entered_at n index before (Some number) ≡ Ok (state_after n index after)
+  pub enters : (needs : List ℕ) → o.needed ≡ map (name_of n) needs → run (added n) (walk_names n before) needs ≡ Ok (walk_names n after) → entered_at n index before (Some number) ≡ Ok (state_after n index after)
   enters needs needed ran =
       rw object (entered_is n index before number o needs needed ∙ rw (checks, ran) (ok_in next_is))
 
   -- what refuses the object, or one of its names
-  pub enter_stops : (needs : List ℕ) (e : Skip) → o.needed ≡ map (name_of n) needs → run (added n) (names_of n before) needs ≡ Err e → entered_at n index before (Some number) ≡ Err e
+  pub enter_stops : (needs : List ℕ) (e : Skip) → o.needed ≡ map (name_of n) needs → run (added n) (walk_names n before) needs ≡ Err e → entered_at n index before (Some number) ≡ Err e
   enter_stops needs e needed ran = rw object (entered_is n index before number o needs needed ∙ rw (checks, ran) refl)
 
 pub enter_refused : (n : Needs) (index : ℕ) (w : walking.NumberWalk) (number : ℕ) (o : Object) (needs : List ℕ) (e : Skip) → object_by_number n number ≡ Ok o → o.needed ≡ map (name_of n) needs
@@ -430,11 +430,11 @@ module _ (n : Needs) (are : AreNeeds n) (index : ℕ) (before : walking.NumberWa
       (λ refused. ap (entered_at n index before) at ∙ enter_refused n index before number o (needed_at n number) e object (sym (needed_is n are number o object).are) (sym (ap (checked_at n index before o) at) ∙ refused))
 
   pub enter_by : (after : walking.NumberWalk) (r : Result (Unit {0}) Skip) (numbers : List ℕ) → numbers ≡ needed_at n number → IsMore before after → checked n index before o ≡ Ok tt
-      → AnswersAs (λ _. names_of n after) skip_is_memory r (run (added n) (names_of n before) numbers) → AnswersAs (λ _. state_after n index after) skip_is_memory r (entered n index before)
+      → AnswersAs (λ _. walk_names n after) skip_is_memory r (run (added n) (walk_names n before) numbers) → AnswersAs (λ _. state_after n index after) skip_is_memory r (entered n index before)
   enter_by after (Ok u) numbers same more checks ran =
       ap (entered_at n index before) at
       ∙ enters n index before after number o at object more (sym (ap (checked_at n index before o) at) ∙ checks) numbers (sym (needed_is n are number o object).are ∙ ap (map (name_of n)) (sym same)) ran
   enter_by after (Err e) numbers same more checks ran =
-      answers_err e (run (added n) (names_of n before) numbers) (entered n index before)
+      answers_err e (run (added n) (walk_names n before) numbers) (entered n index before)
       (λ stopped. ap (entered_at n index before) at
       ∙ enter_stops n index before after number o at object more (sym (ap (checked_at n index before o) at) ∙ checks) numbers e (sym (needed_is n are number o object).are ∙ ap (map (name_of n)) (sym same)) stopped) ran

@@ -33,8 +33,8 @@ use Rattle.pl_cone.specs.Needs.{object_for}
 use Rattle.pl_cone.specs.Plans as plans
 use Rattle.pl_cone.specs.Plans.{position_of, slot_of, start_of, want_of}
 use Rattle.pl_cone.specs.Skipped.{skip_causes}
-use Rattle.pl_cone.specs.Slots.{HaveWantedNames, count_before, is_there, joined, object_told, position_at, position_if, positions, positions_in, slots_by, start_at, walks, want_at, want_in, wants}
-use Rattle.pl_cone.specs.Table.{IsRunTable, is_candidate, names_by, rows_in, walk_of, walked_by}
+use Rattle.pl_cone.specs.Slots.{HaveWantedNames, count_before, is_there, joined, object_told, position_at, position_if, positions, positions_in, table_slots, start_at, table_walks, want_at, want_in, table_wants}
+use Rattle.pl_cone.specs.Table.{IsRunTable, is_candidate_row, names_by, rows_in, walk_of, walked_by}
 use Rattle.pl_cone.specs.Taken as files
 use Rattle.pl_cone.specs.Taken.{files_in, object_by}
 use Rattle.pl_cone.specs.declared.asked.Asked.{Asked}
@@ -181,10 +181,10 @@ module _ (region : Range) (t : RunTable) (is : IsRunTable region t) where
       ∙ (ap (λ (y : Option Taken). if plans.is_candidate (files_in ts) region x.name then want_in y else None) at
       ∙ ap (λ (w : Option Want). if plans.is_candidate (files_in ts) region x.name then w else None) (sym (want_of_entry x.name x.entry) ∙ ap (want_of x.name) (sym row.object))))
 
-  wants_by : wants t ≡ filter_map (want_by region ts) ts
+  wants_by : table_wants t ≡ filter_map (want_by region ts) ts
   wants_by = given_rows (want_at t) (want_by region ts) ts 0 want_row
 
-  pub wants_are : wants t ≡ plans.wants (files_in ts) cands
+  pub wants_are : table_wants t ≡ plans.wants (files_in ts) cands
   wants_are = wants_by ∙ sym (given_kept (λ (x : Taken). x.name) (plans.is_candidate (files_in ts) region) (λ (n : List ℕ). want_of n (objects (format skip_causes) (files_in ts) n)) ts)
 
   count_is : (i : ℕ) (x : Taken) → slice_get ts i ≡ Some x → count_before t i ≡ length (filter_map (want_by region ts) (take i ts))
@@ -194,17 +194,17 @@ module _ (region : Range) (t : RunTable) (is : IsRunTable region t) where
       ∙ ap (λ (ws : List Want). length ws) (given_rows (want_at t) (want_by region ts) (take i ts) 0 (λ j k y here same. want_row j k y (take_at ts i j y here) same))
 
   -- the position of a row's want is that of its name
-  pub position_row : (i : ℕ) (x : Taken) → slice_get ts i ≡ Some x → position_at t i ≡ position_of (wants t) x.name
+  pub position_row : (i : ℕ) (x : Taken) → slice_get ts i ≡ Some x → position_at t i ≡ position_of (table_wants t) x.name
   position_row i x at =
       ap (λ (w : Option Want). position_if (is_there w) (count_before t i)) (want_row i i x at (sym (plus_none i)))
       ∙ (ap (position_if (is_there (want_by region ts x))) (count_is i x at)
       ∙ (sym (positioned (want_by region ts) (want_name region ts) ts i x is.taken.distinct at)
       ∙ ap (λ (ws : List Want). position_of ws x.name) (sym wants_by)))
 
-  joined_row : (i : ℕ) (x : Taken) → slice_get ts i ≡ Some x → joined (slice_get (positions t) i) ≡ position_of (wants t) x.name
+  joined_row : (i : ℕ) (x : Taken) → slice_get ts i ≡ Some x → joined (slice_get (positions t) i) ≡ position_of (table_wants t) x.name
   joined_row i x at = ap joined (column_at (position_at t) (length ts) i (slice_get_within ts i x at)) ∙ position_row i x at
 
-  rows_given : (rows : List ℕ) → length (walked_by ts rows) ≡ length rows → positions_in (positions t) rows ≡ filter_map (position_of (wants t)) (names_by ts rows)
+  rows_given : (rows : List ℕ) → length (walked_by ts rows) ≡ length rows → positions_in (positions t) rows ≡ filter_map (position_of (table_wants t)) (names_by ts rows)
   rows_given [] each = refl
   rows_given (r ∷ rows) each =
       let h : HasMember ts (r ∷ rows) 0 r = has_member_at ts (r ∷ rows) 0 r each refl in
@@ -212,22 +212,22 @@ module _ (region : Range) (t : RunTable) (is : IsRunTable region t) where
       let size : length (walked_by ts (r ∷ rows)) ≡ suc (length (walked_by ts rows)) = ap length walked in
       let rest : length (walked_by ts rows) ≡ length rows = omega (arith, each, size) in
       ap (λ (p : Option ℕ). cons_option p (positions_in (positions t) rows)) (joined_row r h.taken h.file)
-      ∙ (ap (λ (ps : List ℕ). cons_option (position_of (wants t) h.taken.name) ps) (rows_given rows rest)
-      ∙ sym (ap (λ (ws : Walked). filter_map (position_of (wants t)) (names ws)) walked))
+      ∙ (ap (λ (ps : List ℕ). cons_option (position_of (table_wants t) h.taken.name) ps) (rows_given rows rest)
+      ∙ sym (ap (λ (ws : Walked). filter_map (position_of (table_wants t)) (names ws)) walked))
 
-  walk_row : (i k : ℕ) (x : Taken) → slice_get ts i ≡ Some x → k ≡ 0 + i → plans.is_candidate (files_in ts) region x.name ≡ true → positions_in (positions t) (walk_of t k) ≡ filter_map (position_of (wants t)) (members (format skip_causes) (files_in ts) x.name)
+  walk_row : (i k : ℕ) (x : Taken) → slice_get ts i ≡ Some x → k ≡ 0 + i → plans.is_candidate (files_in ts) region x.name ≡ true → positions_in (positions t) (walk_of t k) ≡ filter_map (position_of (table_wants t)) (members (format skip_causes) (files_in ts) x.name)
   walk_row i k x at same on =
       let h : HasRows t i x = candidate_rows region t i x is at on in
       ap (λ (j : ℕ). positions_in (positions t) (walk_of t j)) (same ∙ plus_none i)
       ∙ (ap (λ (rs : Option (List ℕ)). positions_in (positions t) (rows_in rs)) h.walk
       ∙ (rows_given h.rows h.are.each
-      ∙ ap (λ (r : Result Walked Skip). filter_map (position_of (wants t)) (names_of r)) (sym h.told)))
+      ∙ ap (λ (r : Result Walked Skip). filter_map (position_of (table_wants t)) (names_of r)) (sym h.told)))
 
-  pub walks_are : walks t ≡ plans.walks (files_in ts) (wants t) cands
+  pub walks_are : table_walks t ≡ plans.walks (files_in ts) (table_wants t) cands
   walks_are =
-      kept_rows (is_candidate t) (λ (x : Taken). plans.is_candidate (files_in ts) region x.name) (λ (row : ℕ). positions_in (positions t) (walk_of t row)) (λ (x : Taken). filter_map (position_of (wants t)) (members (format skip_causes) (files_in ts) x.name)) ts 0
-      (λ i k x at same. ap (is_candidate t) (same ∙ plus_none i) ∙ candidate_row region t i x is at) walk_row
-      ∙ sym (map_kept (λ (x : Taken). x.name) (plans.is_candidate (files_in ts) region) (λ (n : List ℕ). filter_map (position_of (wants t)) (members (format skip_causes) (files_in ts) n)) ts)
+      kept_rows (is_candidate_row t) (λ (x : Taken). plans.is_candidate (files_in ts) region x.name) (λ (row : ℕ). positions_in (positions t) (walk_of t row)) (λ (x : Taken). filter_map (position_of (table_wants t)) (members (format skip_causes) (files_in ts) x.name)) ts 0
+      (λ i k x at same. ap (is_candidate_row t) (same ∙ plus_none i) ∙ candidate_row region t i x is at) walk_row
+      ∙ sym (map_kept (λ (x : Taken). x.name) (plans.is_candidate (files_in ts) region) (λ (n : List ℕ). filter_map (position_of (table_wants t)) (members (format skip_causes) (files_in ts) n)) ts)
 
   -- ---- what is wanted
 
@@ -249,14 +249,14 @@ module _ (region : Range) (t : RunTable) (is : IsRunTable region t) where
       fits_candidate P (plans.is_candidate (files_in ts) region x.name) (want_of x.name (objects (format skip_causes) (files_in ts) x.name))
       (subst (λ (w : Option Want). IfSome w P) (sym (ap (want_of x.name) row.object ∙ want_of_entry x.name x.entry)) (fits_object P x.name (object_by x.entry) (λ o there library. holds x.name o (row.accepted o there) library)))
 
-  fit_all : (P : Want → Type 0) → ((n : List ℕ) (o : Object) → IsAccepted o → is_library o.kind ≡ true → P (record { name = n; span = o.span; align = o.align })) → All P (wants t)
+  fit_all : (P : Want → Type 0) → ((n : List ℕ) (o : Object) → IsAccepted o → is_library o.kind ≡ true → P (record { name = n; span = o.span; align = o.align })) → All P (table_wants t)
   fit_all P holds =
       subst (λ (ws : List Want). All P ws) (sym wants_by) (All-filter_map P (want_by region ts) ts (all_by_index (λ (x : Taken). IfSome (want_by region ts x) P) ts (fits_file P holds)))
 
-  pub wants_aligned : All (λ w. 0 < w.align) (wants t)
+  pub wants_aligned : All (λ w. 0 < w.align) (table_wants t)
   wants_aligned = fit_all (λ (w : Want). 0 < w.align) (λ n o accepted library. aligned o accepted)
 
-  pub wants_spanned : All (λ w. 0 < w.span) (wants t)
+  pub wants_spanned : All (λ w. 0 < w.span) (table_wants t)
   wants_spanned = fit_all (λ (w : Want). 0 < w.span) (λ n o accepted library. spanned o accepted library)
 
 -- ---- where they go
@@ -284,16 +284,16 @@ start_is (w ∷ ws) (s ∷ slots) n same =
     ]
 
 -- the places of rows are those of their names' slots
-pub places_are : (region : Range) (t : RunTable) (slots : List Slot) → IsRunTable region t → HaveWantedNames (wants t) slots → map (start_at slots) (positions t) ≡ map (λ x. slot_of slots x.name) t.files.now
+pub places_are : (region : Range) (t : RunTable) (slots : List Slot) → IsRunTable region t → HaveWantedNames (table_wants t) slots → map (start_at slots) (positions t) ≡ map (λ x. slot_of slots x.name) t.files.now
 places_are region t slots is have =
     map-map (start_at slots) (position_at t) (range_with_len 0 (length t.files.now))
     ∙ map_rows (λ (row : ℕ). start_at slots (position_at t row)) (λ (x : Taken). slot_of slots x.name) t.files.now 0 (λ i k x at same.
-    ap (λ (j : ℕ). start_at slots (position_at t j)) (same ∙ plus_none i) ∙ (ap (start_at slots) (position_row region t is i x at) ∙ start_is (wants t) slots x.name have))
+    ap (λ (j : ℕ). start_at slots (position_at t j)) (same ∙ plus_none i) ∙ (ap (start_at slots) (position_row region t is i x at) ∙ start_is (table_wants t) slots x.name have))
 
 -- the slots of a table are those that are planned for its files
-pub slots_are : (a : Asked) (t : RunTable) → IsRunTable a.region t → slots_by t a ≡ plans.slots (files_in t.files.now) (files.names_of t.files.now) a
+pub slots_are : (a : Asked) (t : RunTable) → IsRunTable a.region t → table_slots t a ≡ plans.slots (files_in t.files.now) (files.names_of t.files.now) a
 unfolding plans.slots_of
 slots_are a t is =
     let ns : List (List ℕ) = plans.candidates (files_in t.files.now) a.region (files.names_of t.files.now) in
-    ap (λ (rows : List (List ℕ)). because of_plan (if a.share then plan_shared a.rows.now (wants t) rows a.region else plan (disjoint a.rows.now (wants t) a.region) (wants t) a.region)) (walks_are a.region t is)
+    ap (λ (rows : List (List ℕ)). because of_plan (if a.share then plan_shared a.rows.now (table_wants t) rows a.region else plan (disjoint a.rows.now (table_wants t) a.region) (table_wants t) a.region)) (walks_are a.region t is)
     ∙ ap (λ (ws : List Want). because of_plan (if a.share then plan_shared a.rows.now ws (plans.walks (files_in t.files.now) ws ns) a.region else plan (disjoint a.rows.now ws a.region) ws a.region)) (wants_are a.region t is)

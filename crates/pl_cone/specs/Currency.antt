@@ -3,7 +3,7 @@ use Rattle.std.specs.Prelude.{ℕ, Bool, true, false, not, ◌&&◌, ◌||◌, �
 use Rattle.std.specs.List.{list_all, list_any, range_with_len}
 use Rattle.std.specs.Str.{bytes_eq}
 use Rattle.pl_cone.specs.Plans.{stamp_after}
-use Rattle.pl_cone.specs.Table.{is_candidate, rows_of, walk_of}
+use Rattle.pl_cone.specs.Table.{is_candidate_row, rows_of, walk_of}
 use Rattle.pl_cone.specs.Taken.{is_library_entry, marked_by}
 use Rattle.pl_cone.specs.declared.skip.ConeFault.{ConeFault}
 use Rattle.pl_cone.specs.declared.table.RunTable.{RunTable}
@@ -78,7 +78,7 @@ all_held held rows = list_all (is_held_row held) rows
 
 -- a candidate of whose walk not each member holds
 abbrev pub stale_at : RunTable → List Bool → ℕ → Bool
-stale_at t held row = is_candidate t row && not (all_held held (walk_of t row))
+stale_at t held row = is_candidate_row t row && not (all_held held (walk_of t row))
 
 abbrev pub stale_rows : RunTable → List ℕ → List Bool
 stale_rows t places = map (stale_at t (held_rows t places)) (rows_of t)
@@ -92,14 +92,14 @@ abbrev pub greatest_by : Option Marked → ℕ
 greatest_by None = 0
 greatest_by (Some m) = greatest_in m
 
-abbrev pub greatest_of : Taken → ℕ
-greatest_of t = greatest_by (marked_by t.entry)
+abbrev pub greatest_of_file : Taken → ℕ
+greatest_of_file t = greatest_by (marked_by t.entry)
 
-abbrev pub greatest : ℕ → List Taken → ℕ
-greatest last ts = fold (λ most t. max most (greatest_of t)) last ts
+abbrev pub greatest_of_files : ℕ → List Taken → ℕ
+greatest_of_files last ts = fold (λ most t. max most (greatest_of_file t)) last ts
 
 abbrev pub run_stamp : List Taken → List Bool → ℕ → ℕ → Result ℕ ConeFault
-run_stamp ts stale last now = if list_any (λ b. b) stale then stamp_after (greatest last ts) now else Ok last
+run_stamp ts stale last now = if list_any (λ b. b) stale then stamp_after (greatest_of_files last ts) now else Ok last
 
 abbrev pub stamp_by : Option Marked → ℕ
 stamp_by None = 0
@@ -108,12 +108,12 @@ stamp_by (Some m) = m.stamp
 abbrev pub old_stamp : Taken → ℕ
 old_stamp t = stamp_by (marked_by t.entry)
 
-abbrev pub next_stamp : Taken → Bool → ℕ → ℕ
-next_stamp t stale stamp = if is_library_entry t.entry then if stale then stamp else old_stamp t else 0
+abbrev pub next_stamp_of_file : Taken → Bool → ℕ → ℕ
+next_stamp_of_file t stale stamp = if is_library_entry t.entry then if stale then stamp else old_stamp t else 0
 
 abbrev pub stamp_in : Option Taken → Bool → ℕ → ℕ
 stamp_in None stale stamp = 0
-stamp_in (Some t) stale stamp = next_stamp t stale stamp
+stamp_in (Some t) stale stamp = next_stamp_of_file t stale stamp
 
 abbrev pub stamp_at : List Taken → List Bool → ℕ → ℕ → ℕ
 stamp_at ts stale stamp row = stamp_in (slice_get ts row) (is_set (slice_get stale row)) stamp

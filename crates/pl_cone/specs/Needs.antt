@@ -50,18 +50,18 @@ KeepNumbers before after = (n : ℕ) (name : List ℕ) → slice_get before n �
 abbrev pub Grow : List (Bor (List ℕ)) → List (Bor (List ℕ)) → Type 0
 Grow before after = KeepNumbers (words before) (words after)
 
-abbrev pub name_at : Option (List ℕ) → List ℕ
-name_at None = []
-name_at (Some name) = name
+abbrev pub told_name : Option (List ℕ) → List ℕ
+told_name None = []
+told_name (Some name) = name
 
 -- the name of a number
-abbrev pub name_in : List (List ℕ) → ℕ → List ℕ
-name_in names n = name_at (slice_get names n)
+abbrev pub numbered_name : List (List ℕ) → ℕ → List ℕ
+numbered_name names n = told_name (slice_get names n)
 
 -- numbers are those of names, in their order
 pub record Tell (names needed : List (List ℕ)) (told : List ℕ) : Type 0 where
   pub within : All (λ n. n < length names) told
-  pub are : map (name_in names) told ≡ needed
+  pub are : map (numbered_name names) told ≡ needed
 
 abbrev pub needed_in : Option Object → List (List ℕ)
 needed_in None = []
@@ -75,14 +75,14 @@ pub record TellAll (ts : List Taken) (names : List (List ℕ)) (needed : List (L
   pub rows : length needed ≡ length ts
   pub each : (row : ℕ) (t : Taken) (told : List ℕ) → slice_get ts row ≡ Some t → slice_get needed row ≡ Some told → Tell names (needed_by t) told
 
-abbrev pub rows_of : List (Vec ℕ Global) → List (List ℕ)
-rows_of vs = map (λ v. v.items) vs
+abbrev pub items_of : List (Vec ℕ Global) → List (List ℕ)
+items_of vs = map (λ v. v.items) vs
 
 abbrev pub all_names : Needs → List (List ℕ)
 all_names n = words n.names.items
 
 abbrev pub all_needed : Needs → List (List ℕ)
-all_needed n = rows_of n.needed.items
+all_needed n = items_of n.needed.items
 
 -- the numbers of all names that files have and need: a file's own is that of its row, and no name has two
 pub record AreNeeds (n : Needs) : Type 0 where
@@ -97,7 +97,7 @@ pub record AreNumberedFiles (n : Needs) : Type 0 where
   pub needs : AreNeeds n
 
 abbrev pub name_of : Needs → ℕ → List ℕ
-name_of n number = name_in (all_names n) number
+name_of n number = numbered_name (all_names n) number
 
 abbrev pub numbers_at : Option (List ℕ) → List ℕ
 numbers_at None = []
@@ -174,8 +174,8 @@ pub record IsMore (before after : walking.NumberWalk) : Type 0 where
   pub front : take (length before.numbers.items) after.numbers.items ≡ before.numbers.items
 
 -- the names of a walk
-abbrev pub names_of : Needs → walking.NumberWalk → List (List ℕ)
-names_of n w = map (name_of n) w.numbers.items
+abbrev pub walk_names : Needs → walking.NumberWalk → List (List ℕ)
+walk_names n w = map (name_of n) w.numbers.items
 
 -- the names of a walk with one more, where it is new
 abbrev pub added : Needs → List (List ℕ) → ℕ → Result (List (List ℕ)) Skip
@@ -183,7 +183,7 @@ added n names number = because of_walk (walk.added names (name_of n number))
 
 -- the state that pl_scope has of a walk of whose names so many were given their objects
 abbrev pub state : Needs → ℕ → walking.NumberWalk → Walking
-state n given w = record { names = names_of n w; given = given; program = nat_lt 0 given && is_program_row n (slice_get w.numbers.items 0) }
+state n given w = record { names = walk_names n w; given = given; program = nat_lt 0 given && is_program_row n (slice_get w.numbers.items 0) }
 
 -- the state after the name of an index, if there is one
 abbrev pub state_after : Needs → ℕ → walking.NumberWalk → Walking

@@ -4,7 +4,7 @@ use Rattle.std.specs.List.{All, filter_map, cons_option, range_with_len}
 use Rattle.pl_base.specs.Answers.{Answers, because}
 use Rattle.pl_cone.specs.Faulted.{is_memory, of_plan}
 use Rattle.pl_cone.specs.Plans.{start_of, want_of}
-use Rattle.pl_cone.specs.Table.{is_candidate, rows_of, walk_of}
+use Rattle.pl_cone.specs.Table.{is_candidate_row, rows_of, walk_of}
 use Rattle.pl_cone.specs.Taken.{object_by}
 use Rattle.pl_cone.specs.declared.asked.Asked.{Asked}
 use Rattle.pl_cone.specs.declared.fault.PlanningFault.{PlanningFault}
@@ -32,7 +32,7 @@ want_in (Some t) = object_told t.name (object_by t.entry)
 
 -- what the library of a row wants, where it may be prelinked
 abbrev pub want_at : RunTable → ℕ → Option Want
-want_at t row = if is_candidate t row then want_in (slice_get t.files.now row) else None
+want_at t row = if is_candidate_row t row then want_in (slice_get t.files.now row) else None
 
 abbrev pub is_there : Option Want → Bool
 is_there None = false
@@ -47,8 +47,8 @@ AddsWant want before after (Err fault) = Unit {0}
 AddsWant want before after (Ok u) = (after.wants ≡ before.wants ++ cons_option want []) × (after.positions.items ≡ before.positions.items ++ position_if (is_there want) (length before.wants) ∷ [])
 
 -- the wants of all rows
-abbrev pub wants : RunTable → List Want
-wants t = filter_map (want_at t) (rows_of t)
+abbrev pub table_wants : RunTable → List Want
+table_wants t = filter_map (want_at t) (rows_of t)
 
 -- how many rows before one want slots
 abbrev pub count_before : RunTable → ℕ → ℕ
@@ -62,7 +62,7 @@ abbrev pub positions : RunTable → List (Option ℕ)
 positions t = map (position_at t) (rows_of t)
 
 pub record IsWanting (t : RunTable) (w : Wanting) : Type 0 where
-  pub wants : w.wants ≡ wants t
+  pub wants : w.wants ≡ table_wants t
   pub positions : w.positions.items ≡ positions t
 
 -- ---- walks
@@ -75,13 +75,13 @@ abbrev pub positions_in : List (Option ℕ) → List ℕ → List ℕ
 positions_in all rows = filter_map (λ r. joined (slice_get all r)) rows
 
 -- for each name that may be prelinked
-abbrev pub walks : RunTable → List (List ℕ)
-walks t = map (λ row. positions_in (positions t) (walk_of t row)) (filter (is_candidate t) (rows_of t))
+abbrev pub table_walks : RunTable → List (List ℕ)
+table_walks t = map (λ row. positions_in (positions t) (walk_of t row)) (filter (is_candidate_row t) (rows_of t))
 
 -- ---- slots
 
-abbrev pub slots_by : RunTable → Asked → Result (List Slot) PlanningFault
-slots_by t a = because of_plan (if a.share then plan_shared a.rows.now (wants t) (walks t) a.region else plan (disjoint a.rows.now (wants t) a.region) (wants t) a.region)
+abbrev pub table_slots : RunTable → Asked → Result (List Slot) PlanningFault
+table_slots t a = because of_plan (if a.share then plan_shared a.rows.now (table_wants t) (table_walks t) a.region else plan (disjoint a.rows.now (table_wants t) a.region) (table_wants t) a.region)
 
 abbrev pub start_at : List Slot → Option ℕ → ℕ
 start_at slots None = 0
@@ -97,5 +97,5 @@ HaveNamesIf ws slots = All (λ w. 0 < w.span) ws → HaveWantedNames ws slots
 
 -- the slots, and where each row's starts; or the fault
 abbrev pub PlacesSlots : RunTable → Asked → Result PlannedSlots PlanningFault → Type 0
-PlacesSlots t a (Ok p) = (slots_by t a ≡ Ok p.slots) × HaveWantedNames (wants t) p.slots × (p.places ≡ map (start_at p.slots) (positions t))
-PlacesSlots t a (Err fault) = Answers is_memory (Err fault) (slots_by t a)
+PlacesSlots t a (Ok p) = (table_slots t a ≡ Ok p.slots) × HaveWantedNames (table_wants t) p.slots × (p.places ≡ map (start_at p.slots) (positions t))
+PlacesSlots t a (Err fault) = Answers is_memory (Err fault) (table_slots t a)

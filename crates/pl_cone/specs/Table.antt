@@ -165,8 +165,8 @@ abbrev pub has_no_cause : Option (Option Skip) → Bool
 has_no_cause None = false
 has_no_cause (Some cause) = not (is_some cause)
 
-abbrev pub is_candidate : RunTable → ℕ → Bool
-is_candidate t row = has_no_cause (slice_get t.causes row)
+abbrev pub is_candidate_row : RunTable → ℕ → Bool
+is_candidate_row t row = has_no_cause (slice_get t.causes row)
 
 abbrev pub rows_in : Option (List ℕ) → List ℕ
 rows_in None = []

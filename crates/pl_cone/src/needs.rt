@@ -124,7 +124,7 @@ fn all_needed<'f>(
     requires numbers { spec.Numbers numbers.old names.old.items }
     requires few { length names.old.items < 2 ^ 32 }
     ensures told { IfOk result (λ v. spec.TellAll files.now (spec.words names.new.items)
-        (spec.rows_of v.items)) }
+        (spec.items_of v.items)) }
     ensures numbers { OnOk result (spec.Numbers numbers.new names.new.items) }
     ensures goes_on { OnOk result (spec.Grow names.old.items names.new.items) }
     ensures few { OnOk result (length names.new.items < 2 ^ 32) }

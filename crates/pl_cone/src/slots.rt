@@ -100,10 +100,10 @@ fn positions_in(
 }
 
 /// For each name that may be prelinked the positions of the libraries that its walk holds.
-fn walks_of(alloc: Global, table: &RunTable<'_>, wanting: &Wanting) -> Result<Walks, AllocError>
+fn table_walks(alloc: Global, table: &RunTable<'_>, wanting: &Wanting) -> Result<Walks, AllocError>
     requires table { columns.IsRunTableOfSome table.now }
     requires wanting { spec.IsWanting table.now wanting.now }
-    ensures { IfOk result (λ walks. walks.rows ≡ spec.walks table.now) }
+    ensures { IfOk result (λ walks. walks.rows ≡ spec.table_walks table.now) }
 {
     let mut rows = Rows::new(alloc);
     for row in 0..table.files.len() {
@@ -156,14 +156,14 @@ fn planned_slots(
 ) -> Result<Rows<Slot>, PlanningFault>
     requires table { columns.IsRunTableOfSome table.now }
     requires wanting { spec.IsWanting table.now wanting.now }
-    ensures value { Answers is_memory result (spec.slots_by table.now asked.now) }
-    ensures names { IfOk result (spec.HaveWantedNames (spec.wants table.now)) }
+    ensures value { Answers is_memory result (spec.table_slots table.now asked.now) }
+    ensures names { IfOk result (spec.HaveWantedNames (spec.table_wants table.now)) }
 {
     let wants = wanting.wants.as_slice();
     if !asked.share {
         return apart_slots(alloc, asked, wants);
     }
-    let walks = walks_of(alloc, table, wanting)?;
+    let walks = table_walks(alloc, table, wanting)?;
     shared_slots(alloc, asked, wants, &walks)
 }
 

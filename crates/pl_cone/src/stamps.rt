@@ -25,8 +25,8 @@ fn greatest_in(marked: &Marked) -> u32
     most
 }
 
-fn greatest_of(taken: &Taken) -> u32
-    ensures { result ≡ spec.greatest_of taken.now }
+fn greatest_of_file(taken: &Taken) -> u32
+    ensures { result ≡ spec.greatest_of_file taken.now }
 {
     match taken.marked() {
         None => 0,
@@ -35,12 +35,12 @@ fn greatest_of(taken: &Taken) -> u32
 }
 
 /// The greatest of a first stamp and those of all marks and of their lists.
-fn greatest(last: u32, files: &[Taken]) -> u32
-    ensures { result ≡ spec.greatest last files.now }
+fn greatest_of_files(last: u32, files: &[Taken]) -> u32
+    ensures { result ≡ spec.greatest_of_files last files.now }
 {
     let mut most = last;
     for taken in files {
-        most = most.max(greatest_of(taken));
+        most = most.max(greatest_of_file(taken));
     }
     most
 }
@@ -69,7 +69,7 @@ pub fn run_stamp(files: &[Taken], stale: &[bool], last: u32, now: u32) -> Result
     if !any_stale(stale) {
         return Ok(last);
     }
-    stamp_after(greatest(last, files), now)
+    stamp_after(greatest_of_files(last, files), now)
 }
 
 /// The stamp that a file bears, 0 where it is not prelinked.
@@ -82,8 +82,8 @@ fn old_stamp(taken: &Taken) -> u32
     }
 }
 
-fn next_stamp(taken: &Taken, is_stale: bool, stamp: u32) -> u32
-    ensures { result ≡ spec.next_stamp taken.now is_stale stamp }
+fn next_stamp_of_file(taken: &Taken, is_stale: bool, stamp: u32) -> u32
+    ensures { result ≡ spec.next_stamp_of_file taken.now is_stale stamp }
 {
     if !taken.is_library() {
         return 0;
@@ -103,7 +103,7 @@ pub fn stamps_of(
 {
     let mut stamps = Rows::new(alloc);
     for row in 0..files.len() {
-        stamps.push(next_stamp(&files[row], stale[row], stamp))?;
+        stamps.push(next_stamp_of_file(&files[row], stale[row], stamp))?;
     }
     Ok(stamps)
 }

@@ -83,7 +83,7 @@ impl<'f> RunTable<'f> {
 
     /// Whether the name of a row may be prelinked.
     pub fn is_candidate(&self, row: usize) -> bool
-        ensures { result ≡ spec.is_candidate self.now row }
+        ensures { result ≡ spec.is_candidate_row self.now row }
     {
         match self.causes.as_slice().get(row) {
             None => false,

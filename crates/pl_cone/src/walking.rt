@@ -62,8 +62,8 @@ fn add(alloc: Global, needs: &Needs<'_>, walking: &mut NumberWalk, number: u32) 
     requires number { number < length (spec.all_names needs.now) }
     ensures walking { spec.IsNumberWalk needs.now walking.new }
     ensures more { spec.IsMore walking.old walking.new }
-    ensures names { AnswersAs (λ _. spec.names_of needs.now walking.new) skip_is_memory result
-        (spec.added needs.now (spec.names_of needs.now walking.old) number) }
+    ensures names { AnswersAs (λ _. spec.walk_names needs.now walking.new) skip_is_memory result
+        (spec.added needs.now (spec.walk_names needs.now walking.old) number) }
 {
     if walking.last[number as usize] == walking.walk {
         return Ok(());
@@ -88,8 +88,8 @@ fn append(
     requires needed { spec.AreNameNumbers needs.now needed.now }
     ensures walking { spec.IsNumberWalk needs.now walking.new }
     ensures more { spec.IsMore walking.old walking.new }
-    ensures names { AnswersAs (λ _. spec.names_of needs.now walking.new) skip_is_memory result
-        (run (spec.added needs.now) (spec.names_of needs.now walking.old) needed.now) }
+    ensures names { AnswersAs (λ _. spec.walk_names needs.now walking.new) skip_is_memory result
+        (run (spec.added needs.now) (spec.walk_names needs.now walking.old) needed.now) }
 {
     for number in needed {
         add(alloc, needs, walking, *number)?;

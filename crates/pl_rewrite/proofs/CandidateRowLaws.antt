@@ -12,7 +12,7 @@ use Rattle.pl_base.specs.Bytes.{IsBytes}
 use Rattle.pl_cone.specs.Plans as plans
 use Rattle.pl_cone.specs.Skipped.{skip_causes, skip_of}
 use Rattle.pl_cone.specs.Skips.{of_walk}
-use Rattle.pl_cone.specs.Table.{AreRows, IsLinkBy, IsPlan, IsRunTable, has_no_cause, is_candidate, walked_by}
+use Rattle.pl_cone.specs.Table.{AreRows, IsLinkBy, IsPlan, IsRunTable, has_no_cause, is_candidate_row, walked_by}
 use Rattle.pl_cone.specs.Taken.{files_in, object_by}
 use Rattle.pl_cone.specs.WalkRows.{HasOwnWalk, IsCandidateRow}
 use Rattle.pl_cone.specs.declared.asked.Asked.{Asked}
@@ -66,7 +66,7 @@ module _ (n : Numbered) (links : List Link) (causes : List (Option Skip)) (a : A
   t = table_with n links causes
 
   -- a row is a candidate where the name of its file may be prelinked
-  pub candidate_flag : (row : ℕ) (x : Taken) → slice_get n.files.now row ≡ Some x → is_candidate t row ≡ plans.is_candidate (files_in n.files.now) a.region x.name
+  pub candidate_flag : (row : ℕ) (x : Taken) → slice_get n.files.now row ≡ Some x → is_candidate_row t row ≡ plans.is_candidate (files_in n.files.now) a.region x.name
   candidate_flag row x at =
       let r : Result (Unit {0}) Skip = skip_of (files_in n.files.now) a.region x.name in
       let cause : slice_get causes row ≡ Some (plans.cause_of r) =
@@ -75,7 +75,7 @@ module _ (n : Numbered) (links : List Link) (causes : List (Option Skip)) (a : A
       ap has_no_cause cause ∙ (no_cause_is r ∙ sym (candidate_is a.region (files_in n.files.now) x.name))
 
   -- its member has a form
-  candidate_firm : (row : ℕ) (r : Firm) → is_candidate t row ≡ true → IsFirmAt n row r → IsItself r
+  candidate_firm : (row : ℕ) (r : Firm) → is_candidate_row t row ≡ true → IsFirmAt n row r → IsItself r
   candidate_firm row r candidate at =
       let f : IsRowOf n row r = row_of n row r at in
       let x : Taken = f.taken in
@@ -91,13 +91,13 @@ module _ (n : Numbered) (links : List Link) (causes : List (Option Skip)) (a : A
       subst IsItself f.is made
 
   -- the rows of its walk are candidates
-  pub member_flag : (row m k : ℕ) → is_candidate t row ≡ true → slice_get (walk_of n row) m ≡ Some k → is_candidate t k ≡ true
+  pub member_flag : (row m k : ℕ) → is_candidate_row t row ≡ true → slice_get (walk_of n row) m ≡ Some k → is_candidate_row t k ≡ true
   member_flag row m k candidate at =
       let c : IsCandidateRow t row = candidate_known a.region t is row candidate in
       by_index row m k candidate c (ap (λ (ks : List ℕ). slice_get ks m) (sym (candidate_rows a.region t is row c)) ∙ at)
     where
-      by_index : (row m k : ℕ) → is_candidate t row ≡ true → (c : IsCandidateRow t row) → slice_get (row ∷ c.own.others) m ≡ Some k → is_candidate t k ≡ true
-      by_index row zero k candidate c at = subst (λ (i : ℕ). is_candidate t i ≡ true) (same_Some row k at) candidate
+      by_index : (row m k : ℕ) → is_candidate_row t row ≡ true → (c : IsCandidateRow t row) → slice_get (row ∷ c.own.others) m ≡ Some k → is_candidate_row t k ≡ true
+      by_index row zero k candidate c at = subst (λ (i : ℕ). is_candidate_row t i ≡ true) (same_Some row k at) candidate
       by_index row (suc m) k candidate c at = member_candidate a.region t is row (suc m) k candidate c (omega arith) at
 
   rows_are : (row : ℕ) → (c : IsCandidateRow t row) → AreRows n.files.now (walk_of n row)
@@ -106,7 +106,7 @@ module _ (n : Numbered) (links : List Link) (causes : List (Option Skip)) (a : A
   told : (row : ℕ) → (c : IsCandidateRow t row) → sound.walk_in (format skip_causes) (files_in n.files.now) c.own.taken.name ≡ Ok (walked_by n.files.now (walk_of n row))
   told row c = c.own.told ∙ ap (λ (ks : List ℕ). Ok (walked_by n.files.now ks)) (sym (candidate_rows a.region t is row c))
 
-  sources : (row : ℕ) → is_candidate t row ≡ true → (c : IsCandidateRow t row) → AreSources (firms_of n row)
+  sources : (row : ℕ) → is_candidate_row t row ≡ true → (c : IsCandidateRow t row) → AreSources (firms_of n row)
   sources row candidate c =
       let rows : AreRows n.files.now (walk_of n row) = rows_are row c in
       let zip : AllZip (IsFirmAt n) (walk_of n row) (firms_of n row) = firms_zip n row rows in
@@ -121,7 +121,7 @@ module _ (n : Numbered) (links : List Link) (causes : List (Option Skip)) (a : A
         distinct = subst (IsDistinct bytes_eq) (ap names (sym (firms_named n row)) ∙ names_are (firms_of n row)) distinct;
       }
 
-  pub walk_row : (row : ℕ) → is_candidate t row ≡ true → IsWalkRow n row
+  pub walk_row : (row : ℕ) → is_candidate_row t row ≡ true → IsWalkRow n row
   walk_row row candidate =
       let c : IsCandidateRow t row = candidate_known a.region t is row candidate in
       record {
@@ -132,7 +132,7 @@ module _ (n : Numbered) (links : List Link) (causes : List (Option Skip)) (a : A
       }
 
   -- what the relocations of its file find
-  pub link_at : (row : ℕ) (l : Link) → is_candidate t row ≡ true → slice_get links row ≡ Some l → IsLinkAt n row l
+  pub link_at : (row : ℕ) (l : Link) → is_candidate_row t row ≡ true → slice_get links row ≡ Some l → IsLinkAt n row l
   link_at row l candidate at =
       let c : IsCandidateRow t row = candidate_known a.region t is row candidate in
       record {
@@ -141,7 +141,7 @@ module _ (n : Numbered) (links : List Link) (causes : List (Option Skip)) (a : A
       }
 
   -- its walk by its name
-  pub walk_told : (row : ℕ) (x : Taken) → is_candidate t row ≡ true → slice_get n.files.now row ≡ Some x → sound.walk_in (format skip_causes) (files_in n.files.now) x.name ≡ Ok (walked_by n.files.now (walk_of n row))
+  pub walk_told : (row : ℕ) (x : Taken) → is_candidate_row t row ≡ true → slice_get n.files.now row ≡ Some x → sound.walk_in (format skip_causes) (files_in n.files.now) x.name ≡ Ok (walked_by n.files.now (walk_of n row))
   walk_told row x candidate at =
       let c : IsCandidateRow t row = candidate_known a.region t is row candidate in
       let same : c.own.taken ≡ x = same_Some c.own.taken x (sym c.own.file ∙ at) in

@@ -9,7 +9,7 @@ use Rattle.pl_cone.specs.Fits.{fit_in}
 use Rattle.pl_cone.specs.Plans as plans
 use Rattle.pl_cone.specs.Plans.{slot_of}
 use Rattle.pl_cone.specs.Skipped.{skip_causes}
-use Rattle.pl_cone.specs.Table.{IsPlan, IsRunTable, is_candidate, planned_by, walked_by}
+use Rattle.pl_cone.specs.Table.{IsPlan, IsRunTable, is_candidate_row, planned_by, walked_by}
 use Rattle.pl_cone.specs.Taken.{files_in, is_library_entry, object_by}
 use Rattle.pl_cone.specs.declared.asked.Asked.{Asked}
 use Rattle.pl_cone.specs.declared.link.Link.{Link}
@@ -100,7 +100,7 @@ module _ (n : Numbered) (links : List Link) (causes : List (Option Skip)) (a : A
       ∙ ap (λ (s : ℕ). if is_library_at (objects (format skip_causes) files x.name) then s else 0)
       (by_currency (plans.is_candidate files a.region x.name) (plans.is_current files a.region p.slots x.name) p.stamp (stamp_of (mark_at (format skip_causes) (files x.name))) candidate)
 
-  member_is : (row : ℕ) (r : Firm) → is_candidate (table_with n links causes) row ≡ true → IsFirmAt n row r → r.member ≡ planned r.member.name
+  member_is : (row : ℕ) (r : Firm) → is_candidate_row (table_with n links causes) row ≡ true → IsFirmAt n row r → r.member ≡ planned r.member.name
   member_is row r candidate at =
       let f : IsRowOf n row r = row_of n row r at in
       let x : Taken = f.taken in
@@ -115,7 +115,7 @@ module _ (n : Numbered) (links : List Link) (causes : List (Option Skip)) (a : A
 
   -- ---- all members
 
-  members_are : (rows : List ℕ) (rs : List Firm) → AllZip (IsFirmAt n) rows rs → ((m k : ℕ) → slice_get rows m ≡ Some k → is_candidate (table_with n links causes) k ≡ true) → members (all_in Two rs) ≡ map planned (names (map named_of rs))
+  members_are : (rows : List ℕ) (rs : List Firm) → AllZip (IsFirmAt n) rows rs → ((m k : ℕ) → slice_get rows m ≡ Some k → is_candidate_row (table_with n links causes) k ≡ true) → members (all_in Two rs) ≡ map planned (names (map named_of rs))
   members_are [] [] zip flags = refl
   members_are [] (r ∷ rs) zip flags = absurd zip
   members_are (row ∷ rows) [] zip flags = absurd zip
@@ -127,7 +127,7 @@ module _ (n : Numbered) (links : List Link) (causes : List (Option Skip)) (a : A
 
   -- ---- the file
 
-  pub planned_is : (row : ℕ) (x : Taken) → is_candidate (table_with n links causes) row ≡ true → slice_get n.files.now row ≡ Some x → changes.prelinked files a.region run x.name ≡ prelinked (members (all_in Two (firms_of n row)))
+  pub planned_is : (row : ℕ) (x : Taken) → is_candidate_row (table_with n links causes) row ≡ true → slice_get n.files.now row ≡ Some x → changes.prelinked files a.region run x.name ≡ prelinked (members (all_in Two (firms_of n row)))
   unfolding changes.prelinked
   planned_is row x candidate at =
       let walk : IsWalkRow n row = walk_row n links causes a is row candidate in
@@ -137,7 +137,7 @@ module _ (n : Numbered) (links : List Link) (causes : List (Option Skip)) (a : A
       ∙ (ap (λ (ws : Walked). prelinked (map planned (names ws))) (sym (firms_named n row)) ∙ ap prelinked (sym ms))
 
   -- the file that is meant of its row
-  pub meant_is : (row : ℕ) (x : Taken) (file : Option (List ℕ)) → is_candidate (table_with n links causes) row ≡ true → slice_get n.files.now row ≡ Some x → IsFileMeant n row Two file → file ≡ changes.prelinked files a.region run x.name
+  pub meant_is : (row : ℕ) (x : Taken) (file : Option (List ℕ)) → is_candidate_row (table_with n links causes) row ≡ true → slice_get n.files.now row ≡ Some x → IsFileMeant n row Two file → file ≡ changes.prelinked files a.region run x.name
   meant_is row x file candidate at meant = meant (all_in Two (firms_of n row)) (in_versions Two (firms_of n row)) (begins_in Two (firms_of n row)) ∙ sym (planned_is row x candidate at)
 
   -- the members are in version 2
@@ -150,13 +150,13 @@ module _ (n : Numbered) (links : List Link) (causes : List (Option Skip)) (a : A
       let same : (versioned (number_of Two) r).member ≡ r.member = subst (λ (y : Firm). (versioned (number_of Two) y).member ≡ y.member) f.is refl in
       ap (λ (m : Member). m ∷ members (all_in Two rs)) same ∙ ap (λ (ms : List Member). r.member ∷ ms) (two_members rows rs zip.1)
 
-  pub planned_two : (row : ℕ) (x : Taken) → is_candidate (table_with n links causes) row ≡ true → slice_get n.files.now row ≡ Some x → prelinked (members (firms_of n row)) ≡ changes.prelinked files a.region run x.name
+  pub planned_two : (row : ℕ) (x : Taken) → is_candidate_row (table_with n links causes) row ≡ true → slice_get n.files.now row ≡ Some x → prelinked (members (firms_of n row)) ≡ changes.prelinked files a.region run x.name
   planned_two row x candidate at =
       let walk : IsWalkRow n row = walk_row n links causes a is row candidate in
       sym (planned_is row x candidate at ∙ ap prelinked (two_members (walk_of n row) (firms_of n row) (firms_zip n row walk.rows)))
 
   -- the slot and the stamp of a library
-  pub library_numbers : (row : ℕ) (x : Taken) (o : Object) → is_candidate (table_with n links causes) row ≡ true → slice_get n.files.now row ≡ Some x → object_by x.entry ≡ Some o → is_library o.kind ≡ true
+  pub library_numbers : (row : ℕ) (x : Taken) (o : Object) → is_candidate_row (table_with n links causes) row ≡ true → slice_get n.files.now row ≡ Some x → object_by x.entry ≡ Some o → is_library o.kind ≡ true
       → (number_at n.places.now row ≡ numbers.slot x.name) × (number_at n.stamps.now row ≡ numbers.stamp x.name)
   library_numbers row x o candidate at there library =
       let known : IsRow a.region n.files.now x = row_is a.region n.files.now row x is.taken at in

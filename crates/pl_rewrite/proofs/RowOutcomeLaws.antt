@@ -9,7 +9,7 @@ use Rattle.std.proofs.lemmas.List.{length-map}
 use Rattle.std.proofs.lemmas.Option.{none-some, same_Some, slice_get-map, slice_get_within}
 use Rattle.pl_cone.specs.Plans as plans
 use Rattle.pl_cone.specs.Skipped.{skip_causes, skip_of}
-use Rattle.pl_cone.specs.Table.{IsPlan, IsRunTable, is_candidate, planned_by}
+use Rattle.pl_cone.specs.Table.{IsPlan, IsRunTable, is_candidate_row, planned_by}
 use Rattle.pl_cone.specs.Taken.{entry_in, files_in, is_library_entry, marked_by, object_by, taken_of}
 use Rattle.pl_cone.specs.declared.asked.Asked.{Asked}
 use Rattle.pl_cone.specs.declared.link.Link.{Link}
@@ -122,7 +122,7 @@ module _ (n : Numbered) (links : List Link) (causes : List (Option Skip)) (a : A
   named_stale : (row : ℕ) (x : Taken) → slice_get n.files.now row ≡ Some x → spec.is_stale stale row ≡ true → plans.is_stale files a.region p.slots x.name ≡ true
   named_stale row x at on = sym (stale_flag n links causes a p stale is plan flags row x at) ∙ on
 
-  candidate : (row : ℕ) → spec.is_stale stale row ≡ true → is_candidate (table_with n links causes) row ≡ true
+  candidate : (row : ℕ) → spec.is_stale stale row ≡ true → is_candidate_row (table_with n links causes) row ≡ true
   candidate row on = stale_candidate n links causes a p stale is plan flags row on
 
   -- one that is too large

@@ -7,7 +7,7 @@ use Rattle.std.proofs.lemmas.Bool.{and_parts, cases_Bool, eqb-true, false≢true
 use Rattle.std.proofs.lemmas.List.{length-map}
 use Rattle.std.proofs.lemmas.Option.{none-some, slice_get-map}
 use Rattle.pl_cone.specs.Plans as plans
-use Rattle.pl_cone.specs.Table.{IsPlan, IsRunTable, is_candidate}
+use Rattle.pl_cone.specs.Table.{IsPlan, IsRunTable, is_candidate_row}
 use Rattle.pl_cone.specs.Taken.{files_in}
 use Rattle.pl_cone.specs.declared.asked.Asked.{Asked}
 use Rattle.pl_cone.specs.declared.link.Link.{Link}
@@ -79,7 +79,7 @@ module _ (n : Numbered) (links : List Link) (causes : List (Option Skip)) (a : A
   pub stale_file : (row : ℕ) → is_stale stale row ≡ true → (x : Taken) × (slice_get n.files.now row ≡ Some x)
   stale_file row on = slice_get_at n.files.now row (omega (arith, set_within stale row on, count))
 
-  pub stale_candidate : (row : ℕ) → is_stale stale row ≡ true → is_candidate (table_with n links causes) row ≡ true
+  pub stale_candidate : (row : ℕ) → is_stale stale row ≡ true → is_candidate_row (table_with n links causes) row ≡ true
   stale_candidate row on =
       let x = stale_file row on in
       let parts = and_parts (plans.is_candidate (files_in n.files.now) a.region x.0.name) (not (plans.is_current (files_in n.files.now) a.region p.slots x.0.name)) (sym (stale_flag row x.0 x.1) ∙ on) in
@@ -88,13 +88,13 @@ module _ (n : Numbered) (links : List Link) (causes : List (Option Skip)) (a : A
   pub column : IsStaleColumn n stale
   column = record { count = count; walks = λ row on. walk_row n links causes a is row (stale_candidate row on) }
 
-  held_candidate : (row : ℕ) → is_held n stale row ≡ true → is_candidate (table_with n links causes) row ≡ true
+  held_candidate : (row : ℕ) → is_held n stale row ≡ true → is_candidate_row (table_with n links causes) row ≡ true
   held_candidate row on =
       let h : IsHeldBy n stale row = held_from n stale (length n.files.now) row on in
       let first = and_parts (is_stale stale h.program) (not (is_library_at n h.program)) h.stands in
       member_flag n links causes a is h.program h.member row (stale_candidate h.program first.0) h.at
 
-  used_candidate : (row : ℕ) → is_used n stale row ≡ true → is_candidate (table_with n links causes) row ≡ true
+  used_candidate : (row : ℕ) → is_used n stale row ≡ true → is_candidate_row (table_with n links causes) row ≡ true
   used_candidate row on = elim (or_cases (is_stale stale row) (is_held n stale row) on) [
     | inl one ↦ stale_candidate row one
     | inr other ↦ held_candidate row other

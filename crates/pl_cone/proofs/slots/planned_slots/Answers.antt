@@ -9,7 +9,7 @@ use Rattle.pl_slots.specs.Plan.{plan}
 use Rattle.pl_slots.specs.declared.slot.Slot.{Slot}
 use Rattle.pl_slots.specs.declared.slot.Want.{Want}
 use Rattle.pl_cone.specs.Faulted.{is_memory, of_plan}
-use Rattle.pl_cone.specs.Slots.{HaveWantedNames, slots_by, walks, wants}
+use Rattle.pl_cone.specs.Slots.{HaveWantedNames, table_slots, table_walks, table_wants}
 use Rattle.pl_cone.specs.declared.asked.Asked.{Asked}
 use Rattle.pl_cone.specs.declared.fault.PlanningFault.{PlanningFault}
 use Rattle.pl_cone.specs.declared.table.RunTable.{RunTable}
@@ -33,26 +33,26 @@ shared_slots-requires c = rw (c.as_slice-wants.ensures, c.requires.wanting.wants
 
 pub returns-then-not-share-clause-value : goal.returns-then-not-share-clause-value
 returns-then-not-share-clause-value c =
-    let told : c.as_slice-wants.result.now ≡ wants c.args.table.now = c.as_slice-wants.ensures ∙ c.requires.wanting.wants in
-    let same : apart_by c.args.asked.now c.as_slice-wants.result.now ≡ slots_by c.args.table.now c.args.asked.now =
-    ap (apart_by c.args.asked.now) told ∙ sym (ap (chosen c.args.asked.now (wants c.args.table.now) (walks c.args.table.now)) c.if-not-share.true) in
+    let told : c.as_slice-wants.result.now ≡ table_wants c.args.table.now = c.as_slice-wants.ensures ∙ c.requires.wanting.wants in
+    let same : apart_by c.args.asked.now c.as_slice-wants.result.now ≡ table_slots c.args.table.now c.args.asked.now =
+    ap (apart_by c.args.asked.now) told ∙ sym (ap (chosen c.args.asked.now (table_wants c.args.table.now) (table_walks c.args.table.now)) c.if-not-share.true) in
     subst (λ (r : Result (List Slot) PlanningFault). Answers is_memory c.apart_slots.result r) same c.apart_slots.ensures.value
 
 pub returns-then-not-share-clause-names : goal.returns-then-not-share-clause-names
 returns-then-not-share-clause-names c =
-    let told : c.as_slice-wants.result.now ≡ wants c.args.table.now = c.as_slice-wants.ensures ∙ c.requires.wanting.wants in
+    let told : c.as_slice-wants.result.now ≡ table_wants c.args.table.now = c.as_slice-wants.ensures ∙ c.requires.wanting.wants in
     IfOk-weaker c.apart_slots.result _ _ (λ slots have. subst (λ (ws : List Want). HaveWantedNames ws slots) told (have (subst (λ (ws : List Want). All (λ w. 0 < w.span) ws) (sym told) (wants_spanned c.requires.table.0 c.args.table.now c.requires.table.1)))) c.apart_slots.ensures.names
 
 pub returns-clause-value : goal.returns-clause-value
 returns-clause-value c =
-    let told : c.as_slice-wants.result.now ≡ wants c.args.table.now = c.as_slice-wants.ensures ∙ c.requires.wanting.wants in
-    let same : shared_by c.args.asked.now c.as_slice-wants.result.now c.in_ok-walks.walks.rows ≡ slots_by c.args.table.now c.args.asked.now =
+    let told : c.as_slice-wants.result.now ≡ table_wants c.args.table.now = c.as_slice-wants.ensures ∙ c.requires.wanting.wants in
+    let same : shared_by c.args.asked.now c.as_slice-wants.result.now c.in_ok-walks.walks.rows ≡ table_slots c.args.table.now c.args.asked.now =
     ap (λ (ws : List Want). shared_by c.args.asked.now ws c.in_ok-walks.walks.rows) told
-    ∙ (ap (shared_by c.args.asked.now (wants c.args.table.now)) c.in_ok-walks.ensures
-    ∙ sym (ap (chosen c.args.asked.now (wants c.args.table.now) (walks c.args.table.now)) c.if-not-share.false)) in
+    ∙ (ap (shared_by c.args.asked.now (table_wants c.args.table.now)) c.in_ok-walks.ensures
+    ∙ sym (ap (chosen c.args.asked.now (table_wants c.args.table.now) (table_walks c.args.table.now)) c.if-not-share.false)) in
     subst (λ (r : Result (List Slot) PlanningFault). Answers is_memory c.shared_slots.result r) same c.shared_slots.ensures.value
 
 pub returns-clause-names : goal.returns-clause-names
 returns-clause-names c =
-    let told : c.as_slice-wants.result.now ≡ wants c.args.table.now = c.as_slice-wants.ensures ∙ c.requires.wanting.wants in
+    let told : c.as_slice-wants.result.now ≡ table_wants c.args.table.now = c.as_slice-wants.ensures ∙ c.requires.wanting.wants in
     IfOk-weaker c.shared_slots.result _ _ (λ slots have. subst (λ (ws : List Want). HaveWantedNames ws slots) told (have (subst (λ (ws : List Want). All (λ w. 0 < w.span) ws) (sym told) (wants_spanned c.requires.table.0 c.args.table.now c.requires.table.1)))) c.shared_slots.ensures.names

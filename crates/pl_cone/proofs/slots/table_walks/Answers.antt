@@ -2,11 +2,11 @@ use Rattle.std.proofs.Common.{◌≡◌, ℕ, ◌<◌, List, Option, length, sym
 use Rattle.std.specs.List.{All}
 use Rattle.std.proofs.lemmas.List.FromFn.{length-map-range_with_len}
 use Rattle.pl_cone.specs.Slots.{position_at, positions, positions_in}
-use Rattle.pl_cone.specs.Table.{is_candidate, walk_of}
+use Rattle.pl_cone.specs.Table.{is_candidate_row, walk_of}
 use Rattle.pl_cone.proofs.NumberLaws.{kept_less, kept_more}
 use Rattle.pl_cone.proofs.WalkLaws.{table_rows}
-use Rattle.pl_cone.proofs.slots.walks_of.Goals.{then-is_candidate+in_ok-positions_in+in_ok-push, else-is_candidate}
-use Rattle.pl_cone.proofs.slots.walks_of.Goals as goal
+use Rattle.pl_cone.proofs.slots.table_walks.Goals.{then-is_candidate+in_ok-positions_in+in_ok-push, else-is_candidate}
+use Rattle.pl_cone.proofs.slots.table_walks.Goals as goal
 
 pub positions_in-requires : goal.positions_in-requires
 positions_in-requires c =
@@ -22,8 +22,8 @@ loop-row-preserved c = elim c.if-is_candidate.branch [
   | then-is_candidate+in_ok-positions_in+in_ok-push w ↦
       let g : ℕ → List ℕ = λ row. positions_in (positions c.args.table.now) (walk_of c.args.table.now row) in
       let one = w.in_ok-positions_in.ensures ∙ (ap (λ (ps : List (Option ℕ)). positions_in ps w.walk.result.now) (w.deref.ensures.value ∙ c.requires.wanting.positions) ∙ ap (positions_in (positions c.args.table.now)) w.walk.ensures) in
-      rw w.rows-is (kept_more (is_candidate c.args.table.now) g c.loop-row.row c.loop-row.rows _ _ (sym c.is_candidate.ensures ∙ w.if-is_candidate.true) w.in_ok-push.ensures.ok one c.loop-row.invariant)
+      rw w.rows-is (kept_more (is_candidate_row c.args.table.now) g c.loop-row.row c.loop-row.rows _ _ (sym c.is_candidate.ensures ∙ w.if-is_candidate.true) w.in_ok-push.ensures.ok one c.loop-row.invariant)
   | else-is_candidate w ↦
       let g : ℕ → List ℕ = λ row. positions_in (positions c.args.table.now) (walk_of c.args.table.now row) in
-      rw w.rows-is (kept_less (is_candidate c.args.table.now) g c.loop-row.row c.loop-row.rows (sym c.is_candidate.ensures ∙ w.if-is_candidate.false) c.loop-row.invariant)
+      rw w.rows-is (kept_less (is_candidate_row c.args.table.now) g c.loop-row.row c.loop-row.rows (sym c.is_candidate.ensures ∙ w.if-is_candidate.false) c.loop-row.invariant)
 ]
