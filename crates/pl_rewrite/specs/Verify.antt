@@ -53,16 +53,20 @@ is_marked_at ts row = is_some (option_and_then (λ t. marked_by t.entry) (slice_
 abbrev pub are_marked : List Taken → List ℕ → Bool
 are_marked ts rows = list_all (is_marked_at ts) rows
 
--- flags of so many rows, set for these
-unfoldable pub flags_of : ℕ → List ℕ → List Bool
-flags_of zero rows = []
-flags_of (suc count) rows = flags_of count rows ++ list_any (λ r. r == count) rows ∷ []
-
 -- ---- the file that is meant of a row
 
 -- at the slots and stamps of the files, in a version
 abbrev pub IsMeantAt : Numbered → ℕ → Version → Option (List ℕ) → Type 0
-IsMeantAt n row version file = file ≡ file_meant n row version
+IsMeantAt n row version file = IsFileMeant n row version file
+
+-- a row that has a walk is the first of it, and its members have forms
+abbrev pub IsWalkOrNone : Numbered → ℕ → Type 0
+IsWalkOrNone n row = 1 ≤ length (walk_of n row) → IsWalkRow n row
+
+-- none where there is no walk
+pub record IsMeantOrNone (n : Numbered) (row : ℕ) (version : Version) (file : Option (List ℕ)) : Type 0 where
+  pub none : walk_of n row ≡ [] → file ≡ None
+  pub meant : IsWalkRow n row → IsMeantAt n row version file
 
 abbrev pub name_of : Option Taken → List ℕ
 name_of None = []
@@ -76,13 +80,18 @@ abbrev pub is_same : Option (List ℕ) → List ℕ → Bool
 is_same None bytes = false
 is_same (Some file) bytes = bytes_eq file bytes
 
+-- the file of a row is prelinked, and this is its mark
+abbrev pub IsMarkOf : List Taken → ℕ → Marked → Type 0
+IsMarkOf ts row m = (t : Taken) → slice_get ts row ≡ Some t → marked_by t.entry ≡ Some m
+
 abbrev pub IsOriginalIfMeant : List Taken → ℕ → Option (List ℕ) → Type 0
 IsOriginalIfMeant ts row original = (t : Taken) → slice_get ts row ≡ Some t → original ≡ verified_original (files_in ts) t.name
 
--- the own words of the library of a row are there
-abbrev pub HasWords : Numbered → ℕ → List RowWords → Type 0
-HasWords n row all = (row < length all) × ((s : RowWords) → slice_get all row ≡ Some s → s.words ≡ own_words_at n row)
+-- ---- what the relocations of rows find
 
--- the rows whose links are needed: it, and of a program the members of its walk
-abbrev pub is_used : Numbered → ℕ → ℕ → Bool
-is_used n row other = (other == row) || list_any (λ r. r == other) (walk_of n row)
+-- each row that is needed has a walk
+abbrev pub HaveWalks : Numbered → Needed → Type 0
+HaveWalks n needed = (row : ℕ) → is_needed needed row ≡ true → IsWalkRow n row
+
+abbrev pub IsLinkIf : Numbered → Needed → ℕ → Link → Type 0
+IsLinkIf n needed row l = is_needed needed row ≡ true → IsLinkAt n row l

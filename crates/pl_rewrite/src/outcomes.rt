@@ -107,7 +107,7 @@ fn held_by<'t>(numbered: &Numbered<'t>, stale: &[bool], row: usize) -> &'t [u32]
 }
 
 /// A flag for each row, set where the walk of a stale program holds it.
-fn held_by_programs(
+pub fn held_by_programs(
     alloc: Global,
     numbered: &Numbered<'_>,
     stale: &[bool],
