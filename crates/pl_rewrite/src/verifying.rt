@@ -18,7 +18,7 @@ use crate::own_words::OwnWords;
 use crate::program::{Work, program_file};
 use crate::row_words::{Needed, RowWords, is_needed, words_of_rows};
 use pl_base::Rows;
-use pl_cone::{Link, RunTable, Taken, WalkScope, library_link};
+use pl_cone::{Link, RunTable, Taken, WalkScope, library_link, row_of};
 use pl_form::{Marked, Version};
 use pl_io::NoMemory;
 use std::alloc::{AllocError, Global};
@@ -70,8 +70,13 @@ fn are_marked(files: &[Taken], walk: &[u32]) -> bool
     requires { rows.AreRowsOf files.now walk.now }
     ensures { result ≡ spec.are_marked files.now walk.now }
 {
-    walk.iter()
-        .all(|row| files[*row as usize].marked().is_some())
+    for row in walk {
+        let marked = files[*row as usize].marked();
+        if marked.is_none() {
+            return false;
+        }
+    }
+    true
 }
 
 /// What the relocations of the file of a row find.
@@ -148,7 +153,7 @@ fn library_meant(
     requires row { rows.IsLibraryRow numbered.now row }
     requires digests { HaveDigests numbered.now digests.now }
     requires words { words ≡ by_rows.own_words_at numbered.now row }
-    ensures { IfOk result (λ file. spec.IsMeantAt numbered.now row version
+    ensures { IfOk result (λ file. rows.IsFileMeant numbered.now row version
         (option_map (λ v. v.items) file)) }
 {
     let made = new_library(alloc, numbered, digests, row, words)?;
@@ -170,7 +175,7 @@ fn program_meant(
     requires work { contents.IsWork work.now }
     requires row { row < length work.now.numbered.now.files.now }
     requires program { contents.IsProgramRow work.now row }
-    ensures { IfOk result (λ file. spec.IsMeantAt work.now.numbered.now row version
+    ensures { IfOk result (λ file. rows.IsFileMeant work.now.numbered.now row version
         (option_map (λ v. v.items) file)) }
 {
     let made = program_file(alloc, work, row, version)?;
@@ -191,7 +196,7 @@ fn meant_by(
     requires numbered { rows.IsNumbered numbered.now }
     requires walk { rows.IsWalkRow numbered.now row }
     requires stale { AreFlagsOf (length numbered.now.files.now) (row ∷ []) stale.now }
-    ensures { IfOk result (λ file. spec.IsMeantAt numbered.now row version
+    ensures { IfOk result (λ file. rows.IsFileMeant numbered.now row version
         (option_map (λ v. v.items) file)) }
 {
     let flags = held_by_programs(alloc, numbered, stale)?;
@@ -306,12 +311,6 @@ fn original_if_meant<'f>(
     Ok(Some(marked.original.as_slice()))
 }
 
-fn is_named(taken: &Taken, name: &str) -> bool
-    ensures { result ≡ spec.is_named name.now taken.now }
-{
-    taken.name.as_str() == name
-}
-
 /// The original of the file of a name, where that is prelinked, and is byte for byte the file that the originals of its walk give, with the versions, slots and stamps that their files bear; None where it is not. It fails only for want of memory.
 ///
 /// `take_file` of pl_cone gave the files, and no name stands twice.
@@ -324,7 +323,7 @@ pub fn verified_original<'f>(
     ensures { IfOk result (λ original. option_map (λ bytes. bytes.now) original
         ≡ spec.verified_original (files_in files.now) name.now) }
 {
-    let Some(row) = files.iter().position(|taken| is_named(taken, name)) else {
+    let Some(row) = row_of(files, name) else {
         return Ok(None);
     };
     match files[row].marked() {
@@ -340,5 +339,9 @@ pub fn is_verified(alloc: Global, files: &[Taken], name: &str) -> Result<bool, N
     requires { WereTaken files.now }
     ensures { IfOk result (λ verified. verified ≡ spec.is_verified (files_in files.now) name.now) }
 {
-    Ok(verified_original(alloc, files, name)?.is_some())
+    let original = verified_original(alloc, files, name)?;
+    match original {
+        None => Ok(false),
+        Some(_) => Ok(true),
+    }
 }
