@@ -1,7 +1,7 @@
 // Whether a file is the prelinked file of the originals that are there.
-ghost use Rattle.std.specs.Prelude.{◌≡◌, ◌<◌, [], ◌∷◌, IfOk, length, map};
+ghost use Rattle.std.specs.Prelude.{◌≡◌, ◌<◌, [], ◌∷◌, IfOk, is_some, length, map};
 ghost use Rattle.std.specs.Option.{option_map};
-ghost use Rattle.pl_cone.specs.Taken.{WereTaken, files_in};
+ghost use Rattle.pl_cone.specs.Taken.{WereTaken, files_in, marked_by};
 ghost use Rattle.pl_rewrite.specs.Contents as contents;
 ghost use Rattle.pl_rewrite.specs.Digests.{HaveDigests};
 ghost use Rattle.pl_rewrite.specs.Flags.{AreFlagsOf};
@@ -65,14 +65,23 @@ fn stamps_borne(alloc: Global, files: &[Taken]) -> Result<Rows<u32>, AllocError>
     Ok(stamps)
 }
 
+/// Whether a file is prelinked.
+fn is_marked(taken: &Taken) -> bool
+    ensures { result ≡ is_some (marked_by taken.now.entry) }
+{
+    match taken.marked() {
+        None => false,
+        Some(_) => true,
+    }
+}
+
 /// Whether the files of rows are prelinked.
 fn are_marked(files: &[Taken], walk: &[u32]) -> bool
     requires { rows.AreRowsOf files.now walk.now }
     ensures { result ≡ spec.are_marked files.now walk.now }
 {
     for row in walk {
-        let marked = files[*row as usize].marked();
-        if marked.is_none() {
+        if !is_marked(&files[*row as usize]) {
             return false;
         }
     }
@@ -238,7 +247,8 @@ fn meant_with(
         return Ok(None);
     };
     let one = [*first];
-    let flags = flags_of(alloc, numbered.files.len(), &one)?;
+    let count = numbered.files.len();
+    let flags = flags_of(alloc, count, &one)?;
     let stale = flags.as_slice();
     let file = meant_by(alloc, numbered, stale, row, version)?;
     Ok(file)
@@ -311,6 +321,24 @@ fn original_if_meant<'f>(
     Ok(Some(marked.original.as_slice()))
 }
 
+/// The original of the file of a row, if that is prelinked and is the one that is meant.
+fn original_at<'f>(
+    alloc: Global,
+    files: &'f [Taken],
+    row: usize,
+) -> Result<Option<&'f [u8]>, NoMemory>
+    requires taken { WereTaken files.now }
+    requires row { row < length files.now }
+    ensures { IfOk result (λ original. spec.IsOriginalIfMeant files.now row
+        (option_map (λ bytes. bytes.now) original)) }
+{
+    let taken = &files[row];
+    match taken.marked() {
+        None => Ok(None),
+        Some(marked) => original_if_meant(alloc, files, row, marked),
+    }
+}
+
 /// The original of the file of a name, where that is prelinked, and is byte for byte the file that the originals of its walk give, with the versions, slots and stamps that their files bear; None where it is not. It fails only for want of memory.
 ///
 /// `take_file` of pl_cone gave the files, and no name stands twice.
@@ -326,10 +354,7 @@ pub fn verified_original<'f>(
     let Some(row) = row_of(files, name) else {
         return Ok(None);
     };
-    match files[row].marked() {
-        None => Ok(None),
-        Some(marked) => original_if_meant(alloc, files, row, marked),
-    }
+    original_at(alloc, files, row)
 }
 
 /// Whether the file of a name is prelinked, and is byte for byte the file that the originals of its walk give, with the versions, slots and stamps that their files bear. It fails only for want of memory.
