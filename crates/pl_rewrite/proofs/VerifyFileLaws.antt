@@ -171,14 +171,14 @@ marked_walk n row numbered all some = by_walk (walk_of n row) refl some
 
 -- ---- in the versions that the files bear
 
-version_by : Option Marked → ℕ
+abbrev version_by : Option Marked → ℕ
 version_by None = 0
 version_by (Some m) = number_of m.version
 
-version_at : Numbered → ℕ → ℕ
+abbrev version_at : Numbered → ℕ → ℕ
 version_at n k = version_by (option_and_then (λ (x : Taken). marked_by x.entry) (slice_get n.files.now k))
 
-borne : Numbered → List ℕ → List Firm → List Firm
+abbrev borne : Numbered → List ℕ → List Firm → List Firm
 borne n [] rs = []
 borne n (k ∷ ks) [] = []
 borne n (k ∷ ks) (r ∷ rs) = versioned (version_at n k) r ∷ borne n ks rs

@@ -4,7 +4,7 @@ use Rattle.std.specs.Prelude.{◌&&◌, ◌||◌, ◌==◌, is_some, not, slice_
 use Rattle.std.specs.List.{All, AllZip, IsDistinct, list_all, list_any}
 use Rattle.std.specs.Option.{option_and_then, option_map}
 use Rattle.std.specs.Str.{bytes_eq}
-use Rattle.std.proofs.lemmas.Bool.{and_from, and_parts, eq-eqb, eqb-true, or_cases, or_left}
+use Rattle.std.proofs.lemmas.Bool.{and_from, and_parts, eq-eqb, eqb-true, false≢true, or_cases, or_left}
 use Rattle.std.proofs.lemmas.List.{length-map}
 use Rattle.std.proofs.lemmas.List.Elements.{All-head, All-tail}
 use Rattle.std.proofs.lemmas.Option.{none-some, same_Some, slice_get_within}
@@ -48,7 +48,7 @@ flagged_one : (row k : ℕ) → flagged (row ∷ []) k ≡ true → k ≡ row
 unfolding flagged
 flagged_one row k on = elim (or_cases (row == k) false on) [
   | inl hit ↦ sym (eqb-true row k hit)
-  | inr never ↦ absurd cc
+  | inr never ↦ absurd (false≢true never)
 ]
 
 flagged_self : (row : ℕ) → flagged (row ∷ []) row ≡ true
