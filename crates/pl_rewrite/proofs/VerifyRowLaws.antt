@@ -31,7 +31,7 @@ use Rattle.pl_rewrite.specs.Outcomes.{AreHeldFlags, IsStaleColumn, is_held, is_l
 use Rattle.pl_rewrite.specs.Rows.{IsFirmAt, IsNumbered, IsWalkRow, firms_of, walk_of}
 use Rattle.pl_rewrite.specs.RowWords.{is_asked, is_needed, is_set}
 use Rattle.pl_rewrite.specs.Sources.{AreSources, member_names}
-use Rattle.pl_rewrite.specs.Verify.{HaveWalks, is_marked_at, slot_borne, stamp_borne}
+use Rattle.pl_rewrite.specs.Verify.{HaveNeededWalks, is_marked_at, slot_borne, stamp_borne}
 use Rattle.pl_rewrite.specs.declared.numbers.Numbered.{Numbered}
 use Rattle.pl_rewrite.specs.declared.row_words.Needed.{Needed}
 use Rattle.pl_rewrite.proofs.CandidateRowLaws.{IsItself, names_are}
@@ -111,7 +111,7 @@ member_walk_row n row zero r numbered walk at =
 member_walk_row n row (suc m) r numbered walk at = later_walk_row n row m r numbered walk at
 
 -- the rows that are needed have walks
-pub needed_walks : (n : Numbered) (asked : Needed) (stale : List Bool) (row : ℕ) → IsNumbered n → IsWalkRow n row → AreFlagsOf (length n.files.now) (row ∷ []) stale → asked.made.now ≡ stale → AreHeldFlags n stale asked.held.now → HaveWalks n asked
+pub needed_walks : (n : Numbered) (asked : Needed) (stale : List Bool) (row : ℕ) → IsNumbered n → IsWalkRow n row → AreFlagsOf (length n.files.now) (row ∷ []) stale → asked.made.now ≡ stale → AreHeldFlags n stale asked.held.now → HaveNeededWalks n asked
 needed_walks n asked stale row numbered walk flags made held = λ k need. elim (or_cases (is_asked asked.made.now k) (is_asked asked.held.now k) need) [
   | inl one ↦
       let on : is_stale stale k ≡ true = ap (λ (fs : List Bool). is_asked fs k) (sym made) ∙ one in

@@ -80,8 +80,8 @@ IsOriginalIfMeant ts row original = (t : Taken) → slice_get ts row ≡ Some t 
 -- ---- what the relocations of rows find
 
 -- each row that is needed has a walk
-abbrev pub HaveWalks : Numbered → Needed → Type 0
-HaveWalks n needed = (row : ℕ) → is_needed needed row ≡ true → IsWalkRow n row
+abbrev pub HaveNeededWalks : Numbered → Needed → Type 0
+HaveNeededWalks n needed = (row : ℕ) → is_needed needed row ≡ true → IsWalkRow n row
 
 abbrev pub IsLinkIf : Numbered → Needed → ℕ → Link → Type 0
 IsLinkIf n needed row l = is_needed needed row ≡ true → IsLinkAt n row l

@@ -119,7 +119,7 @@ fn link_if(
     requires numbered { rows.IsNumbered numbered.now }
     requires needed { by_rows.IsNeeded numbered.now needed.now }
     requires row { row < length numbered.now.files.now }
-    requires walks { spec.HaveWalks numbered.now needed.now }
+    requires walks { spec.HaveNeededWalks numbered.now needed.now }
     ensures { IfOk result (spec.IsLinkIf numbered.now needed.now row) }
 {
     let asked = is_needed(needed, row);
@@ -137,7 +137,7 @@ fn links_for(
 ) -> Result<Rows<Link>, NoMemory>
     requires numbered { rows.IsNumbered numbered.now }
     requires needed { by_rows.IsNeeded numbered.now needed.now }
-    requires walks { spec.HaveWalks numbered.now needed.now }
+    requires walks { spec.HaveNeededWalks numbered.now needed.now }
     ensures { IfOk result (by_rows.AreLinks numbered.now (by_rows.is_needed needed.now)) }
 {
     let count = numbered.files.len();
@@ -290,7 +290,7 @@ fn meant(
 }
 
 /// Whether a file that may be there is this one.
-fn is_same(file: Option<Vec<u8>>, bytes: &[u8]) -> bool
+fn is_file(file: Option<Vec<u8>>, bytes: &[u8]) -> bool
     ensures { result ≡ spec.is_same (option_map (λ v. v.items) file) bytes.now }
 {
     match file {
@@ -314,7 +314,7 @@ fn original_if_meant<'f>(
 {
     let file = meant(alloc, files, row, marked.version)?;
     let bytes = files[row].bytes.as_slice();
-    let same = is_same(file, bytes);
+    let same = is_file(file, bytes);
     if !same {
         return Ok(None);
     }
