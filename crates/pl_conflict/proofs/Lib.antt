@@ -3,8 +3,8 @@ pub mod PieceLaws
 pub mod OrderLaws
 pub mod OwnLaws
 pub mod HeldLaws
-pub mod LookUpLaws
-pub mod WordHeldLaws
+pub mod AmongLaws
+pub mod RemainingLaws
 pub mod ConflictLaws
 pub mod CompleteLaws
 pub mod MemberLaws
