@@ -15,7 +15,7 @@ use Rattle.pl_base.specs.Each.{run}
 use Rattle.pl_base.specs.Files.{Files}
 use Rattle.pl_base.specs.Names.{is_valid_name}
 use Rattle.pl_base.proofs.AnswerLaws.{ok_same, unless_ok}
-use Rattle.pl_conflict.specs.Format.{format, read_original}
+use Rattle.pl_rewrite.specs.Format.{format, read_original}
 use Rattle.pl_folder.specs.Calls.{Calls}
 use Rattle.pl_folder.specs.Seen.{Seen, Done}
 use Rattle.pl_folder.specs.declared.TheConstants as folder

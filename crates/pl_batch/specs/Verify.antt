@@ -4,7 +4,7 @@ use Rattle.std.specs.List.{All}
 use Rattle.pl_base.specs.Answers.{◌>>=◌, unless}
 use Rattle.pl_base.specs.Files.{Files}
 use Rattle.pl_base.specs.Names.{is_valid_name}
-use Rattle.pl_conflict.specs.Format.{Causes, format}
+use Rattle.pl_rewrite.specs.Format.{Causes, format}
 use Rattle.pl_elf.specs.declared.range.Range.{Range}
 use Rattle.pl_form.specs.declared.file.Entry.{Entry}
 use Rattle.pl_form.specs.declared.file.Entry.TheVariants as entries
