@@ -1,5 +1,5 @@
 // What a run makes of each file.
-ghost use Rattle.std.specs.Prelude.{◌≡◌, ◌<◌, IfOk, length};
+ghost use Rattle.std.specs.Prelude.{◌≡◌, ◌<◌, IfOk, None, length};
 ghost use Rattle.std.specs.Option.{option_or};
 ghost use Rattle.pl_rewrite.specs.Outcomes as spec;
 ghost use Rattle.pl_rewrite.specs.Digests as told_digests;
@@ -51,16 +51,29 @@ fn current_state(marked: &Marked) -> RowState
     }
 }
 
+/// What a run makes of a file that stays; one that is not prelinked gets its original, as its form is too large.
+fn stays(alloc: Global, taken: &Taken) -> Result<RowOutcome, AllocError>
+    ensures { IfOk result (spec.KeepsFile taken.now None) }
+{
+    match taken.marked() {
+        Some(marked) => {
+            let state = current_state(marked);
+            Ok(RowOutcome::Unchanged(state))
+        }
+        None => {
+            let cause = too_large(alloc, taken)?;
+            Ok(RowOutcome::Original(cause))
+        }
+    }
+}
+
 /// What a run makes of a file that is not made anew: it stays, or gets its original.
 fn kept(alloc: Global, taken: &Taken, cause: Option<Skip>) -> Result<RowOutcome, AllocError>
     ensures { IfOk result (spec.KeepsFile taken.now cause) }
 {
-    if let Some(cause) = cause {
-        return Ok(RowOutcome::Original(cause));
-    }
-    match taken.marked() {
-        Some(marked) => Ok(RowOutcome::Unchanged(current_state(marked))),
-        None => Ok(RowOutcome::Original(too_large(alloc, taken)?)),
+    match cause {
+        Some(cause) => Ok(RowOutcome::Original(cause)),
+        None => stays(alloc, taken),
     }
 }
 
