@@ -311,11 +311,14 @@ fn made_of(
     let held = flags.as_slice();
     let made = digests_of(alloc, numbered.files, stale)?;
     let digests = made.as_slice();
-    let needed = Needed { made: stale, held };
+    let needed = Needed {
+        made: &*stale,
+        held,
+    };
     let row_words = words_of_rows(alloc, numbered, links, &needed)?;
     let told = row_words.as_slice();
     let work = Work {
-        numbered,
+        numbered: &*numbered,
         row_words: told,
         digests,
     };

@@ -210,7 +210,10 @@ fn meant_by(
 {
     let flags = held_by_programs(alloc, numbered, stale)?;
     let held = flags.as_slice();
-    let needed = Needed { made: stale, held };
+    let needed = Needed {
+        made: &*stale,
+        held,
+    };
     let links = links_for(alloc, numbered, &needed)?;
     let mut row_words = words_of_rows(alloc, numbered, links, &needed)?;
     let made = digests_of(alloc, numbered.files, stale)?;
@@ -223,7 +226,7 @@ fn meant_by(
     }
     let told = row_words.as_slice();
     let work = Work {
-        numbered,
+        numbered: &*numbered,
         row_words: told,
         digests,
     };
