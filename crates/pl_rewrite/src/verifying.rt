@@ -277,7 +277,7 @@ fn meant(
     let places = slots.as_slice();
     let stamps = times.as_slice();
     let numbered = Numbered {
-        files,
+        files: &*files,
         walks: rows,
         index: &index,
         places,
