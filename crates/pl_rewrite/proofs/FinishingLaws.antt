@@ -60,4 +60,3 @@ pub made_begin : (rows : List Change) (states : List ReportRow) (ts : List Taken
 unfolding made_from
 made_begin rows states ts os none also =
     ap (λ (x : List Change). make x states) none ∙ ap (λ (x : List ReportRow). make [] x) also
-

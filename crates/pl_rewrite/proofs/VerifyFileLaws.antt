@@ -154,8 +154,8 @@ marked_sources n row numbered h is all =
     record {
       few = omega (arith, long, rows.few, limit_is);
       firm = all_by_index IsItself (firms_of n row) (λ i r at.
-      let k = firm_index n (walk_of n row) (firms_of n row) i r zip at in
-      marked_firm n numbered.taken.0 k.0 r numbered.taken.1 k.2 (test_at (is_marked_at n.files.now) (walk_of n row) i k.0 all k.1));
+          let k = firm_index n (walk_of n row) (firms_of n row) i r zip at in
+          marked_firm n numbered.taken.0 k.0 r numbered.taken.1 k.2 (test_at (is_marked_at n.files.now) (walk_of n row) i k.0 all k.1));
       distinct = subst (IsDistinct bytes_eq) (ap names (sym (firms_named n row)) ∙ names_are (firms_of n row)) distinct;
     }
 
