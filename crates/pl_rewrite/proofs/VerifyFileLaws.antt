@@ -61,7 +61,7 @@ use Rattle.pl_rewrite.proofs.VerifyLaws.{original_read}
 
 test_at : {X : Type 0} (q : X → Bool) (xs : List X) (i : ℕ) (x : X) → list_all q xs ≡ true → slice_get xs i ≡ Some x → q x ≡ true
 test_at q [] i x all at = absurd (none-some x at)
-test_at q (y ∷ xs) zero x all at = subst (λ (z : X). q z ≡ true) (same_Some y x at) (and_parts (q y) (list_all q xs) all).0
+test_at {X = X} q (y ∷ xs) zero x all at = subst (λ (z : X). q z ≡ true) (same_Some y x at) (and_parts (q y) (list_all q xs) all).0
 test_at q (y ∷ xs) (suc i) x all at = test_at q xs i x (and_parts (q y) (list_all q xs) all).1 at
 
 -- the first that fails
@@ -253,7 +253,7 @@ one_bad (x ∷ ms) (r ∷ rs) (suc i) m zip at bad = ap (λ (b : Bool). has_numb
 not_set : (rs : List Firm) → list_all has_numbers rs ≡ false → are_set rs ≡ false
 unfolding are_set
 not_set [] bad = refl
-not_set (r ∷ rs) bad = and_left (list_all has_numbers (r ∷ rs)) _ bad
+not_set (r ∷ rs) bad = and_left _ _ (and_left (list_all has_numbers (r ∷ rs)) _ bad)
 
 -- so no file is meant
 no_version : (ms : List Member) (i : ℕ) (m : Member) → slice_get ms i ≡ Some m → is_version m.version ≡ false → prelinked ms ≡ None
