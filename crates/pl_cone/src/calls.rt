@@ -33,7 +33,7 @@ fn is_named(taken: &Taken, name: &str) -> bool
 }
 
 /// The row of the file of a name, if there is one.
-fn row_of(files: &[Taken], name: &str) -> Option<usize>
+pub fn row_of(files: &[Taken], name: &str) -> Option<usize>
     ensures { spec.IsRowOf files.now name.now result }
 {
     for row in 0..files.len() {

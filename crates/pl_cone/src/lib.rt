@@ -31,10 +31,11 @@ mod values;
 mod walking;
 
 pub use asked::Asked;
-pub use calls::{Cone, cone_of, prelinkable};
+pub use calls::{Cone, cone_of, prelinkable, row_of};
 pub use fault::PlanningFault;
 pub use laws::{flags_give_one_word, rule_is_one};
 pub use link::Link;
+pub use linking::library_link;
 pub use members::{modules_of, sought};
 pub use plan::RowPlan;
 pub use planning::plan_of;

@@ -99,8 +99,8 @@ fn remaining_number(
     }
 }
 
-/// What the relocations of a library, the first member of its own walk, find there, and which of them remain.
-fn library_link(alloc: Global, own: &WalkScope<'_>, index: &Index) -> Result<Link, NoMemory>
+/// What the relocations of the first member of a walk find there, and which of them remain: which are not known to give the same in every walk.
+pub fn library_link(alloc: Global, own: &WalkScope<'_>, index: &Index) -> Result<Link, NoMemory>
     requires some { 0 < length own.now.scope }
     requires index { table.IsIndexOfScope own.now index.now }
     ensures { IfOk result (by_walk.IsLinkOf index.now own.now.scope) }

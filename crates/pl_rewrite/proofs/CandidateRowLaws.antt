@@ -54,11 +54,11 @@ no_cause_is : (r : Result (Unit {0}) Skip) → has_no_cause (Some (plans.cause_o
 no_cause_is (Ok u) = refl
 no_cause_is (Err e) = refl
 
-names_are : (rs : List Firm) → names (map named_of rs) ≡ member_names rs
+pub names_are : (rs : List Firm) → names (map named_of rs) ≡ member_names rs
 names_are [] = refl
 names_are (r ∷ rs) = ap (λ (ns : List (List ℕ)). r.member.name ∷ ns) (names_are rs)
 
-abbrev IsItself : Firm → Type 0
+abbrev pub IsItself : Firm → Type 0
 IsItself r = firm_of r.member ≡ Some r
 
 module _ (n : Numbered) (links : List Link) (causes : List (Option Skip)) (a : Asked) (is : IsRunTable a.region (table_with n links causes)) where

@@ -7,7 +7,7 @@ use Rattle.pl_base.specs.Memory.{Memory, read}
 use Rattle.pl_form.specs.Words.{has_place}
 use Rattle.pl_form.specs.declared.file.Fill.{Fill}
 use Rattle.pl_object.specs.declared.reloc.Reloc.{Reloc}
-use Rattle.pl_rewrite.specs.Copies.{FillsBy, IsFill, place_of, places_of}
+use Rattle.pl_rewrite.specs.Copies.{FillsBy, IsFill, place_of, given_places}
 use Rattle.pl_rewrite.specs.Fills.{fill_at, fills}
 use Rattle.pl_rewrite.specs.declared.copies.Filling.{Filling}
 use Rattle.pl_value.specs.declared.meaning.Meaning.{Meaning}
@@ -24,12 +24,12 @@ fills_later : (m : Memory) (r : Reloc) (rs : List Reloc) → has_place r ≡ fal
 unfolding fills
 fills_later m r rs none = rw none refl
 
-places_first : (r : Reloc) (g : Meaning) (rs : List Reloc) (gs : List Meaning) → has_place r ≡ true → places_of (r ∷ rs) (g ∷ gs) ≡ (r, g) ∷ places_of rs gs
-unfolding places_of
+places_first : (r : Reloc) (g : Meaning) (rs : List Reloc) (gs : List Meaning) → has_place r ≡ true → given_places (r ∷ rs) (g ∷ gs) ≡ (r, g) ∷ given_places rs gs
+unfolding given_places
 places_first r g rs gs some = rw some refl
 
-places_later : (r : Reloc) (g : Meaning) (rs : List Reloc) (gs : List Meaning) → has_place r ≡ false → places_of (r ∷ rs) (g ∷ gs) ≡ places_of rs gs
-unfolding places_of
+places_later : (r : Reloc) (g : Meaning) (rs : List Reloc) (gs : List Meaning) → has_place r ≡ false → given_places (r ∷ rs) (g ∷ gs) ≡ given_places rs gs
+unfolding given_places
 places_later r g rs gs none = rw none refl
 
 none_made : (f : Filling) (m : Memory) (made : List Fill) → AllZip (IsFill f) [] made → made ≡ fills m []
@@ -43,21 +43,21 @@ first_made f m r g ps rest (x ∷ xs) some is later zip =
     ap (λ (n : ℕ). record { address = n; bytes = x.bytes } ∷ xs) zip.0.0 ∙ ap (λ (bs : List ℕ). record { address = r.address; bytes = bs } ∷ xs) (is x.bytes some zip.0.1)
     ∙ ap (λ (ys : List Fill). fill_at m r ∷ ys) (later xs zip.1)
 
-no_places : (rs : List Reloc) → places_of rs [] ≡ []
-unfolding places_of
+no_places : (rs : List Reloc) → given_places rs [] ≡ []
+unfolding given_places
 no_places [] = refl
 no_places (r ∷ rs) = refl
 
-nothing_of : (gs : List Meaning) → places_of [] gs ≡ []
-unfolding places_of
+nothing_of : (gs : List Meaning) → given_places [] gs ≡ []
+unfolding given_places
 nothing_of gs = refl
 
-pub fills_same : (f : Filling) (m : Memory) (rs : List Reloc) (gs : List Meaning) (made : List Fill) → AllZip (IsOf f m) rs gs → AllZip (IsFill f) (places_of rs gs) made → made ≡ fills m rs
+pub fills_same : (f : Filling) (m : Memory) (rs : List Reloc) (gs : List Meaning) (made : List Fill) → AllZip (IsOf f m) rs gs → AllZip (IsFill f) (given_places rs gs) made → made ≡ fills m rs
 fills_same f m [] gs made each zip = none_made f m made (subst (λ ps. AllZip (IsFill f) ps made) (nothing_of gs) zip)
 fills_same f m (r ∷ rs) [] made each zip = absurd each
 fills_same f m (r ∷ rs) (g ∷ gs) made each zip = elim (cases_Bool (has_place r)) [
   | inl some ↦
-      first_made f m r g (places_of rs gs) (fills m rs) made some each.0 (λ xs later. fills_same f m rs gs xs each.1 later) (subst (λ ps. AllZip (IsFill f) ps made) (places_first r g rs gs some) zip)
+      first_made f m r g (given_places rs gs) (fills m rs) made some each.0 (λ xs later. fills_same f m rs gs xs each.1 later) (subst (λ ps. AllZip (IsFill f) ps made) (places_first r g rs gs some) zip)
       ∙ sym (fills_first m r rs some)
   | inr none ↦
       fills_same f m rs gs made each.1 (subst (λ ps. AllZip (IsFill f) ps made) (places_later r g rs gs none) zip)

@@ -16,25 +16,25 @@ use Rattle.pl_slots.specs.declared.slot.Slot.{Slot}
 use Rattle.law_sound.specs.Rule.{Files}
 use Rattle.pl_rewrite.specs.Outcomes as outcomes
 use Rattle.pl_rewrite.specs.Outcomes.{AreOutcomes, IsOutcome, MayBe, made_by, made_from, made_in, planned_of, with_made}
-use Rattle.pl_rewrite.specs.Rewriting.{AreDecided, all_made, rewritten}
+use Rattle.pl_rewrite.specs.Rewriting.{AreDecided, rewritten, run_made}
 use Rattle.pl_rewrite.specs.declared.finishing.MadeFiles.{MadeFiles}
 use Rattle.pl_rewrite.specs.declared.finishing.Made.{Made}
 use Rattle.pl_rewrite.specs.declared.outcome.RowOutcome.{RowOutcome}
 use Rattle.pl_rewrite.specs.declared.rewriting.Rewritten.{Rewritten}
 use Rattle.pl_rewrite.proofs.PlanLaws.{made_append, made_none, rewritten_is}
 
-from_names : (files : Files) (region : Range) (p : RunPlan) (before : List (List ℕ)) (ts : List Taken) (os : List RowOutcome) → AllZip (IsOutcome files region p) ts os → made_from (all_made files before region p) ts os ≡ all_made files (before ++ names_of ts) region p
+from_names : (files : Files) (region : Range) (p : RunPlan) (before : List (List ℕ)) (ts : List Taken) (os : List RowOutcome) → AllZip (IsOutcome files region p) ts os → made_from (run_made files before region p) ts os ≡ run_made files (before ++ names_of ts) region p
 unfolding made_from
-from_names files region p before [] [] zip = ap (λ (ns : List (List ℕ)). all_made files ns region p) (sym (append-nil before))
+from_names files region p before [] [] zip = ap (λ (ns : List (List ℕ)). run_made files ns region p) (sym (append-nil before))
 from_names files region p before [] (o ∷ os) zip = absurd zip
 from_names files region p before (t ∷ ts) [] zip = absurd zip
 from_names files region p before (t ∷ ts) (o ∷ os) zip =
-    ap (λ (m : Made). made_from (with_made (all_made files before region p) t.name m) ts os) zip.0.meant
+    ap (λ (m : Made). made_from (with_made (run_made files before region p) t.name m) ts os) zip.0.meant
     ∙ ap (λ (all : MadeFiles). made_from all ts os) (made_append files region p before t.name)
     ∙ from_names files region p (before ++ t.name ∷ []) ts os zip.1
-    ∙ ap (λ (ns : List (List ℕ)). all_made files ns region p) (append_assoc before (t.name ∷ []) (names_of ts))
+    ∙ ap (λ (ns : List (List ℕ)). run_made files ns region p) (append_assoc before (t.name ∷ []) (names_of ts))
 
-pub all_are : (files : Files) (region : Range) (p : RunPlan) (ts : List Taken) (os : List RowOutcome) → AllZip (IsOutcome files region p) ts os → outcomes.all_made ts os ≡ all_made files (names_of ts) region p
+pub all_are : (files : Files) (region : Range) (p : RunPlan) (ts : List Taken) (os : List RowOutcome) → AllZip (IsOutcome files region p) ts os → outcomes.all_made ts os ≡ run_made files (names_of ts) region p
 all_are files region p ts os zip = ap (λ (all : MadeFiles). made_from all ts os) (made_none files region p [] [] refl refl) ∙ from_names files region p [] ts os zip
 
 -- ---- what is asked of them

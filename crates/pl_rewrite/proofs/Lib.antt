@@ -58,3 +58,7 @@ pub mod PlannedFileLaws
 pub mod StaleRowLaws
 pub mod OutcomeLaws
 pub mod RowOutcomeLaws
+pub mod NewRowLaws
+pub mod VerifyRowLaws
+pub mod VerifyFileLaws
+pub mod VerifyingLaws

@@ -26,7 +26,7 @@ pub too_large_at : (n : Numbered) (row : ℕ) (t : Taken) (cause : Skip) → sli
 too_large_at n row t cause at is = λ u there. is ∙ ap too_large (same_Some t u (sym at ∙ there))
 
 -- members that cannot be prelinked together have no file
-none_meant : (n : Numbered) (row : ℕ) (version : Version) → IsWalkRow n row → are_set (firms_of n row) ≡ false → IsFileMeant n row version None
+pub none_meant : (n : Numbered) (row : ℕ) (version : Version) → IsWalkRow n row → are_set (firms_of n row) ≡ false → IsFileMeant n row version None
 none_meant n row version walk apart = λ ss are begins.
     prelinked_none ss (sources_versions (firms_of n row) ss are walk.sources) (set_versions (firms_of n row) ss are (firms_in_two n row walk) ∙ apart)
 

@@ -1,49 +1,32 @@
 -- What a run makes of a file by its outcome is what it makes of its name.
 use Rattle.std.proofs.Common.{◌≡◌, ℕ, Bool, true, false, List, [], ◌∷◌, length, Option, Some, None, Result, Ok, Err, refl, sym, ap, subst, ◌∙◌}
-use Rattle.std.specs.Prelude.{◌&&◌, not, is_some, if◌then◌else◌}
+use Rattle.std.specs.Prelude.{◌&&◌, not, is_some}
 use Rattle.std.specs.Option.{option_map, option_or}
 use Rattle.std.specs.Result.{is_ok}
 use Rattle.std.proofs.lemmas.Bool.{and_left, and_parts, false≢true, not-false, not-true, true≢false}
 use Rattle.std.proofs.lemmas.Option.{none-some, same_Some}
 use Rattle.pl_cone.specs.Plans as plans
 use Rattle.pl_cone.specs.Plans.{RunPlan}
-use Rattle.pl_cone.specs.Skipped.{skip_causes, skip_of}
+use Rattle.pl_cone.specs.Skipped.{skip_of}
 use Rattle.pl_cone.specs.declared.skip.Skip.{Skip}
 use Rattle.pl_cone.specs.declared.skip.Skip.TheVariants as skips
-use Rattle.pl_cone.specs.declared.taken.Taken.{Taken}
 use Rattle.pl_cone.proofs.CandidateLaws.{candidate_is}
-use Rattle.pl_conflict.specs.Format.{format}
 use Rattle.pl_elf.specs.declared.range.Range.{Range}
 use Rattle.pl_form.specs.Files.{marked_in, original_in}
 use Rattle.pl_form.specs.declared.file.Marked.{Marked}
 use Rattle.pl_form.proofs.FilesLaws.{originals_are_bare}
 use Rattle.pl_journal.specs.declared.change.Change.{Change}
 use Rattle.pl_scope.proofs.NameLaws.{eq_refl}
-use Rattle.law_sound.specs.Plan.{planned_in}
 use Rattle.law_sound.specs.Rule.{Files}
 use Rattle.pl_rewrite.specs.Changes as changes
-use Rattle.pl_rewrite.specs.Changes.{from_scratch, next, put}
-use Rattle.pl_rewrite.specs.Outcomes.{made_in, made_original, too_large}
+use Rattle.pl_rewrite.specs.Changes.{next, put}
+use Rattle.pl_rewrite.specs.Outcomes.{made_in}
 use Rattle.pl_rewrite.specs.Reports as reports
 use Rattle.pl_rewrite.specs.Reports.{marked_at, state_by}
 use Rattle.pl_rewrite.specs.declared.finishing.Made.{Made}
 use Rattle.pl_rewrite.specs.declared.report.RowState.{RowState}
 use Rattle.pl_rewrite.specs.declared.report.RowState.TheVariants.{Skipped}
-
--- ---- the file of a name after the run
-
-next_on : (files : Files) (region : Range) (p : RunPlan) (n : List ℕ) → plans.is_current files region p.slots n ≡ true → next files region p n ≡ files n
-unfolding next
-next_on files region p n on = ap (λ (b : Bool). if b then files n else from_scratch files region p n) on
-
-next_off : (files : Files) (region : Range) (p : RunPlan) (n : List ℕ) → plans.is_current files region p.slots n ≡ false → next files region p n ≡ from_scratch files region p n
-unfolding next
-next_off files region p n off = ap (λ (b : Bool). if b then files n else from_scratch files region p n) off
-
-scratch_by : (files : Files) (region : Range) (p : RunPlan) (n : List ℕ) (b : Bool) → plans.is_candidate files region n ≡ b
-    → from_scratch files region p n ≡ option_or (if b then changes.prelinked files region p n else None) (option_map original_in (files n))
-unfolding changes.prelinked
-scratch_by files region p n b is = ap (λ (c : Bool). option_or (if c then planned_in (format skip_causes) files (changes.numbers files region p) n else None) (option_map original_in (files n))) is
+use Rattle.pl_rewrite.proofs.NextLaws.{next_off, next_on, scratch_by}
 
 -- ---- the parts of what is made
 

@@ -15,7 +15,7 @@ use Rattle.pl_image.specs.Loads.{IsPlaced, loaded_at}
 use Rattle.pl_image.specs.declared.loaded_object.LoadedObject.{LoadedObject}
 use Rattle.pl_object.specs.declared.object.Object.{Object}
 use Rattle.pl_object.specs.declared.reloc.Reloc.{Reloc}
-use Rattle.pl_rewrite.specs.Copies.{AddsFill, AreBytesOf, IsFill, IsLoadedAt, IsPlacedRow, PutsFirst, loaded_for, place_of, places_of}
+use Rattle.pl_rewrite.specs.Copies.{AddsFill, AreBytesOf, IsFill, IsLoadedAt, IsPlacedRow, PutsFirst, loaded_for, place_of, given_places}
 use Rattle.pl_rewrite.specs.Rows.{IsFirmAt, IsNumbered, firm_by, number_at}
 use Rattle.pl_rewrite.specs.declared.copies.Filling.{Filling}
 use Rattle.pl_rewrite.specs.declared.numbers.Numbered.{Numbered}
@@ -76,22 +76,22 @@ zip_append R [] (y ∷ ys) us vs zip more = absurd zip
 zip_append R (x ∷ xs) [] us vs zip more = absurd zip
 zip_append R (x ∷ xs) (y ∷ ys) us vs zip more = (zip.0, zip_append R xs ys us vs zip.1 more)
 
-places_more : (rs : List Reloc) (gs : List Meaning) (i : ℕ) (d : Reloc) (e : Meaning) → i < length rs → length gs ≡ length rs → places_of (take (i + 1) rs) (take (i + 1) gs) ≡ places_of (take i rs) (take i gs) ++ place_of (get_or rs i d) (get_or gs i e)
-unfolding places_of
+places_more : (rs : List Reloc) (gs : List Meaning) (i : ℕ) (d : Reloc) (e : Meaning) → i < length rs → length gs ≡ length rs → given_places (take (i + 1) rs) (take (i + 1) gs) ≡ given_places (take i rs) (take i gs) ++ place_of (get_or rs i d) (get_or gs i e)
+unfolding given_places
 places_more [] gs i d e lt same = absurd (omega (arith, lt))
 places_more (r ∷ rs) [] i d e lt same = absurd (omega (arith, same))
 places_more (r ∷ rs) (g ∷ gs) zero d e lt same = append-nil (place_of r g)
 places_more (r ∷ rs) (g ∷ gs) (suc i) d e lt same =
     ap (λ ps. place_of r g ++ ps) (places_more rs gs i d e (omega (arith, lt)) (omega (arith, same)))
-    ∙ sym (append_assoc (place_of r g) (places_of (take i rs) (take i gs)) (place_of (get_or rs i d) (get_or gs i e)))
+    ∙ sym (append_assoc (place_of r g) (given_places (take i rs) (take i gs)) (place_of (get_or rs i d) (get_or gs i e)))
 
-pub fills_begin : (f : Filling) (rs : List Reloc) (gs : List Meaning) (made : List form.Fill) → made ≡ [] → AllZip (IsFill f) (places_of (take 0 rs) (take 0 gs)) made
-unfolding places_of
+pub fills_begin : (f : Filling) (rs : List Reloc) (gs : List Meaning) (made : List form.Fill) → made ≡ [] → AllZip (IsFill f) (given_places (take 0 rs) (take 0 gs)) made
+unfolding given_places
 fills_begin f rs gs made none = subst (AllZip (IsFill f) []) (sym none) tt
 
 pub fills_more : (f : Filling) (rs : List Reloc) (gs : List Meaning) (i : ℕ) (d : Reloc) (e : Meaning) (before after : List form.Fill) → i < length rs → length gs ≡ length rs → AddsFill f (get_or rs i d) (get_or gs i e) before after
-    → AllZip (IsFill f) (places_of (take i rs) (take i gs)) before → AllZip (IsFill f) (places_of (take (i + 1) rs) (take (i + 1) gs)) after
+    → AllZip (IsFill f) (given_places (take i rs) (take i gs)) before → AllZip (IsFill f) (given_places (take (i + 1) rs) (take (i + 1) gs)) after
 fills_more f rs gs i d e before after lt same adds so_far =
     subst (λ (ps : List (Reloc × Meaning)). AllZip (IsFill f) ps after) (sym (places_more rs gs i d e lt same))
-    (subst (λ (fs : List form.Fill). AllZip (IsFill f) (places_of (take i rs) (take i gs) ++ place_of (get_or rs i d) (get_or gs i e)) fs) (sym adds.is)
-    (zip_append (IsFill f) (places_of (take i rs) (take i gs)) before (place_of (get_or rs i d) (get_or gs i e)) adds.made so_far adds.fills))
+    (subst (λ (fs : List form.Fill). AllZip (IsFill f) (given_places (take i rs) (take i gs) ++ place_of (get_or rs i d) (get_or gs i e)) fs) (sym adds.is)
+    (zip_append (IsFill f) (given_places (take i rs) (take i gs)) before (place_of (get_or rs i d) (get_or gs i e)) adds.made so_far adds.fills))

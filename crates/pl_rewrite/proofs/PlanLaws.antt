@@ -16,8 +16,9 @@ use Rattle.pl_cone.specs.Plans.{RunPlan}
 use Rattle.pl_slots.specs.declared.slot.Slot.{Slot}
 use Rattle.law_sound.specs.Rule.{Files}
 use Rattle.pl_rewrite.specs.Changes.{change, changes, is_given, next_cache}
+use Rattle.pl_rewrite.specs.Outcomes.{with_made}
 use Rattle.pl_rewrite.specs.Reports.{report, row_of, state_after}
-use Rattle.pl_rewrite.specs.Rewriting.{all_made, rewrite, rewritten, rewritten_with, with_made}
+use Rattle.pl_rewrite.specs.Rewriting.{rewrite, rewritten, rewritten_with, run_made}
 use Rattle.pl_rewrite.specs.declared.finishing.MadeFiles.{MadeFiles}
 use Rattle.pl_rewrite.specs.declared.finishing.Made.{Made}
 use Rattle.pl_rewrite.specs.declared.report.ReportRow.{ReportRow}
@@ -81,7 +82,7 @@ made_at files region p n = record { change = change files region p n; state = st
 abbrev make : List Change → List ReportRow → Bool → MadeFiles
 make rows states given = record { rows = rows; states = states; given = given }
 
-pub made_append : (files : Files) (region : Range) (p : RunPlan) (ns : List (List ℕ)) (n : List ℕ) → with_made (all_made files ns region p) n (made_at files region p n) ≡ all_made files (ns ++ n ∷ []) region p
+pub made_append : (files : Files) (region : Range) (p : RunPlan) (ns : List (List ℕ)) (n : List ℕ) → with_made (run_made files ns region p) n (made_at files region p n) ≡ run_made files (ns ++ n ∷ []) region p
 unfolding changes
 made_append files region p ns n =
     let rows = filter_map (change files region p) ns ++ cons_option (change files region p n) [] in
@@ -94,27 +95,27 @@ made_append files region p ns n =
 names_append : (ts : List Taken) (t : Taken) → names_of (ts ++ t ∷ []) ≡ names_of ts ++ t.name ∷ []
 names_append ts t = map_append (λ (u : Taken). u.name) ts t
 
-pub made_more : (files : Files) (region : Range) (p : RunPlan) (ts : List Taken) (i : ℕ) (t : Taken) (all after : MadeFiles) (made : Made) → i < length ts → t ≡ get_or ts i t → all ≡ all_made files (names_of (take i ts)) region p
-    → made ≡ record { change = change files region p t.name; state = state_after files region p t.name; given = is_given files region p t.name } → after ≡ with_made all t.name made → after ≡ all_made files (names_of (take (i + 1) ts)) region p
+pub made_more : (files : Files) (region : Range) (p : RunPlan) (ts : List Taken) (i : ℕ) (t : Taken) (all after : MadeFiles) (made : Made) → i < length ts → t ≡ get_or ts i t → all ≡ run_made files (names_of (take i ts)) region p
+    → made ≡ record { change = change files region p t.name; state = state_after files region p t.name; given = is_given files region p t.name } → after ≡ with_made all t.name made → after ≡ run_made files (names_of (take (i + 1) ts)) region p
 made_more files region p ts i t all after made lt at so_far one more =
     let longer : take (i + 1) ts ≡ take i ts ++ t ∷ [] = take_more ts i t lt ∙ ap (λ (u : Taken). take i ts ++ u ∷ []) (sym at) in
     more
     ∙ (ap (λ (x : MadeFiles). with_made x t.name made) so_far
-    ∙ (ap (with_made (all_made files (names_of (take i ts)) region p) t.name) one
+    ∙ (ap (with_made (run_made files (names_of (take i ts)) region p) t.name) one
     ∙ (made_append files region p (names_of (take i ts)) t.name
-    ∙ ap (λ (ns : List (List ℕ)). all_made files ns region p) (sym (ap names_of longer ∙ names_append (take i ts) t)))))
+    ∙ ap (λ (ns : List (List ℕ)). run_made files ns region p) (sym (ap names_of longer ∙ names_append (take i ts) t)))))
 
-pub made_done : (files : Files) (region : Range) (p : RunPlan) (ts : List Taken) (i : ℕ) (all : MadeFiles) → length ts ≤ i → all ≡ all_made files (names_of (take i ts)) region p → all ≡ all_made files (names_of ts) region p
-made_done files region p ts i all le so_far = so_far ∙ ap (λ (us : List Taken). all_made files (names_of us) region p) (take_all i ts le)
+pub made_done : (files : Files) (region : Range) (p : RunPlan) (ts : List Taken) (i : ℕ) (all : MadeFiles) → length ts ≤ i → all ≡ run_made files (names_of (take i ts)) region p → all ≡ run_made files (names_of ts) region p
+made_done files region p ts i all le so_far = so_far ∙ ap (λ (us : List Taken). run_made files (names_of us) region p) (take_all i ts le)
 
-pub made_none : (files : Files) (region : Range) (p : RunPlan) (rows : List Change) (states : List ReportRow) → rows ≡ [] → states ≡ [] → ◌≡◌ {A = MadeFiles} (record { rows = rows; states = states; given = false }) (all_made files [] region p)
+pub made_none : (files : Files) (region : Range) (p : RunPlan) (rows : List Change) (states : List ReportRow) → rows ≡ [] → states ≡ [] → ◌≡◌ {A = MadeFiles} (record { rows = rows; states = states; given = false }) (run_made files [] region p)
 unfolding changes
 made_none files region p rows states none also = ap (λ (x : List Change). make x states false) none ∙ ap (λ (x : List ReportRow). make [] x false) also
 
 -- ---- the whole
 
 -- with what is made of all files
-pub rewritten_is : (files : Files) (ns : List (List ℕ)) (a : Asked) (p : RunPlan) (made : MadeFiles) → made ≡ all_made files ns a.region p → rewritten_with a p made ≡ rewritten files ns a p
+pub rewritten_is : (files : Files) (ns : List (List ℕ)) (a : Asked) (p : RunPlan) (made : MadeFiles) → made ≡ run_made files ns a.region p → rewritten_with a p made ≡ rewritten files ns a p
 unfolding next_cache report
 rewritten_is files ns a p made is = ap (rewritten_with a p) is
 

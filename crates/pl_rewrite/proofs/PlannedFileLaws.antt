@@ -3,7 +3,7 @@ use Rattle.std.proofs.Common.{◌≡◌, ℕ, suc, ◌<◌, Bool, true, false, L
 use Rattle.std.specs.Prelude.{◌&&◌, not, slice_get, if◌then◌else◌}
 use Rattle.std.specs.List.{AllZip}
 use Rattle.std.specs.Option.{option_map}
-use Rattle.std.proofs.lemmas.Bool.{cases_Bool}
+use Rattle.std.proofs.lemmas.Bool.{false≢true}
 use Rattle.std.proofs.lemmas.Option.{slice_get-map}
 use Rattle.pl_cone.specs.Fits.{fit_in}
 use Rattle.pl_cone.specs.Plans as plans
@@ -49,7 +49,7 @@ by_kind false number none = none refl
 by_currency : (candidate current : Bool) (stamp old : ℕ) → candidate ≡ true → (if candidate && not current then stamp else old) ≡ (if current then old else stamp)
 by_currency true true stamp old is = refl
 by_currency true false stamp old is = refl
-by_currency false current stamp old is = absurd cc
+by_currency false current stamp old is = absurd (false≢true is)
 
 abbrev member_with : List ℕ → List ℕ → ℕ → ℕ → Member
 member_with name original slot stamp = record { name = name; original = original; version = number_of Two; slot = slot; stamp = stamp }

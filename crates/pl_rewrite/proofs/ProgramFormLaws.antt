@@ -4,11 +4,12 @@ use Rattle.std.specs.Prelude.{drop, slice_get}
 use Rattle.std.specs.Option.{option_map}
 use Rattle.std.proofs.lemmas.List.{length-map}
 use Rattle.std.proofs.lemmas.Option.{none-some, same_Some}
-use Rattle.pl_cone.specs.Table.{IsIndexOfScope, walked_by}
+use Rattle.pl_cone.specs.Table.{IsIndexOfScope, IsWalkScope, walked_by}
 use Rattle.pl_cone.specs.Taken.{files_in, object_by}
 use Rattle.pl_cone.specs.WalkRows.{HasOwnWalk}
 use Rattle.pl_cone.specs.Skipped.{skip_causes}
 use Rattle.pl_cone.specs.Skips.{of_walk}
+use Rattle.pl_cone.specs.declared.scopes.WalkScope.{WalkScope}
 use Rattle.pl_cone.specs.declared.taken.Taken.{Taken}
 use Rattle.pl_cone.specs.declared.values.WalkLinking.{WalkLinking}
 use Rattle.pl_cone.proofs.AmongLaws.{index_among}
@@ -115,13 +116,17 @@ rows_once n row numbered walk =
     let h : HasOwnWalk n.files.now n.walks.now row = has_walk n row numbered walk in
     once_members n.files.now (walk_of n row) walk.rows.each (walk_distinct of_walk (sound.objects (format skip_causes) (files_in n.files.now)) h.taken.name (walked_by n.files.now (walk_of n row)) (told_walk n row h))
 
+-- the index tells of the scope of a walk
+pub index_of_walk : (n : Numbered) (row : ℕ) (w : WalkScope) → IsNumbered n → (walk : IsWalkRow n row) → IsWalkScope n.files.now (walk_of n row) w → IsIndexOfScope w n.index.now
+index_of_walk n row w numbered walk is = index_among n.files.now (walk_of n row) n.index.now w walk.rows (rows_once n row numbered walk) numbered.index is
+
 pub linking_of : (w : Work) (row : ℕ) (p : PlacedWalk) (l : WalkLinking) → IsNumbered w.numbered.now → (walk : IsWalkRow w.numbered.now row) → IsPlacedWalk w.numbered.now row p → l.scope.now ≡ p.walk.scope → l.places.now ≡ p.places
     → l.among.index.now ≡ w.numbered.now.index.now → l.among.positions.now ≡ p.walk.positions.items → IsLinkingOfRow w row l
 linking_of w row p l numbered walk placed scope places index positions =
     let n : Numbered = w.numbered.now in
     let members : l.scope.now ≡ walked_by n.files.now (walk_of n row) = scope ∙ placed.walk.scope in
     let at : l.places.now ≡ places_of n.places.now (walk_of n row) = places ∙ placed.places in
-    let among : IsIndexOfScope p.walk n.index.now = index_among n.files.now (walk_of n row) n.index.now p.walk walk.rows (rows_once n row numbered walk) numbered.index placed.walk in
+    let among : IsIndexOfScope p.walk n.index.now = index_of_walk n row p.walk numbered walk placed.walk in
     record {
       is = record {
         one_each = ap length at ∙ (length-map (walk_of n row) (number_at n.places.now) ∙ (sym walk.rows.each ∙ sym (ap length members)));

@@ -102,12 +102,12 @@ held_there n stale row m r lt program at =
 
 -- ---- what is asked of a row
 
-asked_held : (n : Numbered) (stale held : List Bool) (row : ℕ) → AreHeldFlags n stale held → row < length n.files.now → is_asked held row ≡ is_held n stale row
+pub asked_held : (n : Numbered) (stale held : List Bool) (row : ℕ) → AreHeldFlags n stale held → row < length n.files.now → is_asked held row ≡ is_held n stale row
 asked_held n stale held row are lt =
     let there = slice_get_at held row (omega (arith, lt, are.count)) in
     rw there.1 (are.each row there.0 there.1)
 
-needed_is : (n : Numbered) (asked : Needed) (stale : List Bool) (row : ℕ) → asked.made.now ≡ stale → AreHeldFlags n stale asked.held.now → row < length n.files.now → is_needed asked row ≡ is_used n stale row
+pub needed_is : (n : Numbered) (asked : Needed) (stale : List Bool) (row : ℕ) → asked.made.now ≡ stale → AreHeldFlags n stale asked.held.now → row < length n.files.now → is_needed asked row ≡ is_used n stale row
 needed_is n asked stale row made held lt =
     ap (λ (flags : List Bool). is_asked flags row || is_asked asked.held.now row) made ∙ ap (λ (b : Bool). is_stale stale row || b) (asked_held n stale asked.held.now row held lt)
 
@@ -123,7 +123,7 @@ pub asked_for : (n : Numbered) (asked : Needed) (stale : List Bool) → asked.ma
 asked_for n asked stale made held count = record { made = ap length made ∙ count; held = held.count }
 
 -- the member of an index of rows
-zip_there : {X Y : Type 0} (R : X → Y → Type 0) (xs : List X) (ys : List Y) (i : ℕ) (x : X) → AllZip R xs ys → slice_get xs i ≡ Some x → (y : Y) × (slice_get ys i ≡ Some y) × R x y
+pub zip_there : {X Y : Type 0} (R : X → Y → Type 0) (xs : List X) (ys : List Y) (i : ℕ) (x : X) → AllZip R xs ys → slice_get xs i ≡ Some x → (y : Y) × (slice_get ys i ≡ Some y) × R x y
 zip_there R [] ys i x zip at = absurd (none-some x at)
 zip_there R (z ∷ xs) [] i x zip at = absurd zip
 zip_there R (z ∷ xs) (y ∷ ys) zero x zip at = (y, refl, subst (λ (u : X). R u y) (same_Some z x at) zip.0)

@@ -24,9 +24,12 @@ pub record IsTurn (X : Type 0) (xs : List X) (i : ℕ) (r : Option X) (rest : Li
   pub after : rest ≡ drop (i + 1) xs
   pub count : left + (i + 1) ≡ length xs
 
+no_cons : {X : Type 0} (x : X) (rest : List X) → [] ≡ x ∷ rest → ⊥
+no_cons x rest e = cc
+
 drop_at : {X : Type 0} (xs : List X) (i : ℕ) (x : X) (rest : List X) → drop i xs ≡ x ∷ rest → (slice_get xs i ≡ Some x) × (rest ≡ drop (suc i) xs)
-drop_at [] zero x rest e = absurd cc
-drop_at [] (suc i) x rest e = absurd cc
+drop_at [] zero x rest e = absurd (no_cons x rest e)
+drop_at [] (suc i) x rest e = absurd (no_cons x rest e)
 drop_at (y ∷ xs) zero x rest e =
     let head : y ≡ x = cc in
     let tail : xs ≡ rest = cc in

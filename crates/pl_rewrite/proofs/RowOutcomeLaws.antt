@@ -1,12 +1,11 @@
 -- The outcome of each row is what a run makes of its file.
-use Rattle.std.proofs.Common.{◌≡◌, ℕ, ◌<◌, Bool, true, false, List, [], ◌∷◌, length, map, Option, Some, None, Result, Ok, Err, refl, sym, ap, subst, ◌∙◌, arith, inl, inr}
+use Rattle.std.proofs.Common.{◌≡◌, ℕ, ◌<◌, Bool, true, false, List, [], ◌∷◌, length, Option, Some, None, Ok, sym, ap, subst, ◌∙◌, arith, inl, inr}
 use Rattle.std.specs.Prelude.{◌&&◌, drop, not, slice_get, if◌then◌else◌}
 use Rattle.std.specs.List.{AllZip}
 use Rattle.std.specs.Option.{option_and_then, option_map}
-use Rattle.std.specs.Result.{is_ok}
 use Rattle.std.proofs.lemmas.Bool.{cases_Bool}
 use Rattle.std.proofs.lemmas.List.{length-map}
-use Rattle.std.proofs.lemmas.Option.{none-some, same_Some, slice_get-map, slice_get_within}
+use Rattle.std.proofs.lemmas.Option.{same_Some, slice_get-map, slice_get_within}
 use Rattle.pl_cone.specs.Plans as plans
 use Rattle.pl_cone.specs.Skipped.{skip_causes, skip_of}
 use Rattle.pl_cone.specs.Table.{IsPlan, IsRunTable, is_candidate_row, planned_by}
@@ -29,7 +28,6 @@ use Rattle.pl_elf.specs.Kinds.{is_library}
 use Rattle.pl_elf.specs.declared.range.Range.{Range}
 use Rattle.pl_form.specs.Files.{marked_in, original_in, original_or_file}
 use Rattle.pl_form.specs.declared.file.Marked.{Marked}
-use Rattle.pl_form.specs.declared.version.Version.{Version}
 use Rattle.pl_form.specs.declared.version.Version.TheVariants.{Two}
 use Rattle.pl_lists.specs.declared.list_row.ListRow.{ListRow}
 use Rattle.pl_object.specs.declared.object.Object.{Object}
@@ -38,16 +36,15 @@ use Rattle.pl_journal.specs.declared.change.Change.TheVariants.{Put}
 use Rattle.pl_scope.proofs.NameLaws.{eq_refl}
 use Rattle.law_sound.specs.Rule as sound
 use Rattle.law_sound.specs.Rule.{objects}
-use Rattle.sha2.specs.Sha256.{sha256}
 use Rattle.pl_rewrite.specs.Changes as changes
 use Rattle.pl_rewrite.specs.Changes.{put}
 use Rattle.pl_rewrite.specs.Contents.{conflicts_in}
-use Rattle.pl_rewrite.specs.Forms.{HasFormWith, file_with}
-use Rattle.pl_rewrite.specs.Libraries.{HasForm, HasFormBy, IsNew, firm_of, storable_library}
+use Rattle.pl_rewrite.specs.Forms.{file_with}
+use Rattle.pl_rewrite.specs.Libraries.{IsNew, firm_of, storable_library}
 use Rattle.pl_rewrite.specs.Outcomes.{IsMadeAt, IsOutcome, KeepsFile, MayBe, kept_by, made_by, made_in, made_original, made_program, made_with, put_original, too_large}
 use Rattle.pl_rewrite.specs.Outcomes as spec
 use Rattle.pl_rewrite.specs.Reports as reports
-use Rattle.pl_rewrite.specs.Rows.{IsFirmAt, IsWalkRow, firm_by, firms_of, is_library_row, number_at, of_firm, walk_of}
+use Rattle.pl_rewrite.specs.Rows.{IsWalkRow, firm_by, firms_of, is_library_row, of_firm}
 use Rattle.pl_rewrite.specs.Sources.{AreSources, members}
 use Rattle.pl_rewrite.specs.declared.finishing.Made.{Made}
 use Rattle.pl_rewrite.specs.declared.numbers.Numbered.{Numbered}
@@ -67,6 +64,8 @@ use Rattle.pl_rewrite.proofs.RowByRowLaws.{zip_each}
 use Rattle.pl_rewrite.proofs.PlannedFileLaws.{library_numbers, meant_is, planned_two}
 use Rattle.pl_rewrite.proofs.StaleRowLaws.{column, stale_candidate, stale_flag}
 use Rattle.pl_rewrite.proofs.WholeLaws.{library_made}
+use Rattle.pl_rewrite.proofs.NewRowLaws.{library_firm_is, library_may, library_object, made_firm}
+
 
 entry_of : (region : Range) (ts : List Taken) (x : Taken) → IsRow region ts x → x.entry ≡ entry_in x.bytes
 unfolding taken_of
@@ -89,18 +88,6 @@ put_mark x m name old own original mark named before told copied =
 
 abbrev make : Option Change → RowState → Bool → Made
 make change state given = record { change = change; state = state; given = given }
-
--- ---- the parts of a new library
-
--- the member that is made by them
-member_parts : (t : Taken) (parts : NewLibrary) (o : Object) (slot stamp : ℕ) → parts.slot ≡ slot → parts.stamp ≡ stamp → (n : Numbered) (row : ℕ) → slot ≡ number_at n.places.now row → stamp ≡ number_at n.stamps.now row → firm_of t parts Two o ≡ firm_by n row t o
-member_parts t parts o slot stamp first second n row place time =
-    ap (λ (s : ℕ). firm_of t (record { slot = s; stamp = parts.stamp; digest = parts.digest; list = parts.list; words = parts.words }) Two o) (first ∙ place)
-    ∙ ap (λ (s : ℕ). firm_of t (record { slot = number_at n.places.now row; stamp = s; digest = parts.digest; list = parts.list; words = parts.words }) Two o) (second ∙ time)
-
--- its form does not depend on its version
-form_again : (t : Taken) (parts : NewLibrary) (o : Object) (version : Version) → HasFormWith (firm_of t parts Two o) parts.list parts.words → HasFormWith (firm_of t parts version o) parts.list parts.words
-form_again t parts o version has = record { firm = has.firm; even = has.even; list = has.list; words = has.words }
 
 module _ (n : Numbered) (links : List Link) (causes : List (Option Skip)) (a : Asked) (p : RowPlan) (stale : List Bool) (is : IsRunTable a.region (table_with n links causes)) (plan : IsPlan (table_with n links causes) a p) (places : n.places.now ≡ p.places) (stamps : n.stamps.now ≡ p.stamps)
     (flags : stale ≡ p.stale) where
@@ -146,28 +133,6 @@ module _ (n : Numbered) (links : List Link) (causes : List (Option Skip)) (a : A
       ∙ sym (new_is files a.region run x.name x.bytes (known row x at).file made.file.items (named_stale row x at on) new)
 
   -- the file of a new library is the one that is planned
-  library_row : (row : ℕ) (x : Taken) (parts : NewLibrary) → slice_get n.files.now row ≡ Some x → (new : IsNew n row parts) → IsRowOf n row new.firm
-  library_row row x parts at new = row_of n row new.firm new.at
-
-  same_file : (row : ℕ) (x : Taken) (parts : NewLibrary) → slice_get n.files.now row ≡ Some x → (new : IsNew n row parts) → (library_row row x parts at new).taken ≡ x
-  same_file row x parts at new = same_Some (library_row row x parts at new).taken x (sym (library_row row x parts at new).at ∙ at)
-
-  library_object : (row : ℕ) (x : Taken) (parts : NewLibrary) → (at : slice_get n.files.now row ≡ Some x) → (new : IsNew n row parts) → object_by x.entry ≡ Some new.firm.object
-  library_object row x parts at new = ap (λ (y : Taken). object_by y.entry) (sym (same_file row x parts at new)) ∙ (library_row row x parts at new).object
-
-  library_firm_is : (row : ℕ) (x : Taken) (parts : NewLibrary) → (at : slice_get n.files.now row ≡ Some x) → (new : IsNew n row parts) → firm_by n row x new.firm.object ≡ new.firm
-  library_firm_is row x parts at new = ap (λ (y : Taken). firm_by n row y new.firm.object) (sym (same_file row x parts at new)) ∙ (library_row row x parts at new).is
-
-  made_firm : (row : ℕ) (x : Taken) (parts : NewLibrary) → (at : slice_get n.files.now row ≡ Some x) → (new : IsNew n row parts) → firm_of x parts Two new.firm.object ≡ new.firm
-  made_firm row x parts at new =
-      let firm : firm_by n row x new.firm.object ≡ new.firm = library_firm_is row x parts at new in
-      member_parts x parts new.firm.object new.firm.member.slot new.firm.member.stamp new.slot new.stamp n row (sym (ap (λ (r : Firm). r.member.slot) firm)) (sym (ap (λ (r : Firm). r.member.stamp) firm)) ∙ firm
-
-  library_may : (row : ℕ) (x : Taken) (parts : NewLibrary) → slice_get n.files.now row ≡ Some x → IsNew n row parts → HasForm x parts
-  library_may row x parts at new =
-      let has : HasFormWith (firm_of x parts Two new.firm.object) parts.list parts.words = subst (λ (r : Firm). HasFormWith r parts.list parts.words) (sym (made_firm row x parts at new)) new.form in
-      let original : new.firm.member.original ≡ original_in x.bytes = ap (λ (r : Firm). r.member.original) (sym (library_firm_is row x parts at new)) in
-      subst (HasFormBy x parts) (sym (library_object row x parts at new)) (λ version. (form_again x parts new.firm.object version has, new.digest ∙ ap sha256 original))
 
   library_file_is : (row : ℕ) (x : Taken) (parts : NewLibrary) → slice_get n.files.now row ≡ Some x → spec.is_stale stale row ≡ true → is_library_row n row ≡ true → are_set (firms_of n row) ≡ true → IsNew n row parts
       → storable_library x parts Two ≡ changes.prelinked files a.region run x.name
@@ -180,12 +145,12 @@ module _ (n : Numbered) (links : List Link) (causes : List (Option Skip)) (a : A
       let list : parts.list ≡ list_of rs = new.list ∙ ap (λ (ms : List Firm). list_of (drop 1 ms)) first.is in
       let words : parts.words ≡ own_words (objects_of (r ∷ rs)) (slots_of (r ∷ rs)) = new.words ∙ ap (λ (ms : List Firm). own_words (objects_of ms) (slots_of ms)) first.is in
       let file : stored (Some (file_with (firm_of x parts Two new.firm.object) parts.list parts.words)) ≡ stored (Some (file_with r (list_of rs) (own_words (objects_of (r ∷ rs)) (slots_of (r ∷ rs))))) =
-      ap (λ (m : Firm). stored (Some (file_with m parts.list parts.words))) (made_firm row x parts at new ∙ same)
+      ap (λ (m : Firm). stored (Some (file_with m parts.list parts.words))) (made_firm n row x parts at new ∙ same)
       ∙ (ap (λ (ls : List ListRow). stored (Some (file_with r ls parts.words))) list ∙ ap (λ (ws : List (Option ℕ)). stored (Some (file_with r (list_of rs) ws))) words) in
       let kind : is_library r.object.kind ≡ true = library_firm n row r first.at library in
       let whole : stored (Some (file_with r (list_of rs) (own_words (objects_of (r ∷ rs)) (slots_of (r ∷ rs))))) ≡ prelinked (members (r ∷ rs)) =
       library_made r rs (subst AreSources first.is walk.sources) kind (subst (λ (ms : List Firm). are_set ms ≡ true) first.is set) in
-      ap (option_and_then (λ (o : Object). stored (Some (file_with (firm_of x parts Two o) parts.list parts.words)))) (library_object row x parts at new)
+      ap (option_and_then (λ (o : Object). stored (Some (file_with (firm_of x parts Two o) parts.list parts.words)))) (library_object n row x parts at new)
       ∙ (file ∙ (whole ∙ (ap (λ (ms : List Firm). prelinked (members ms)) (sym first.is) ∙ planned_two n links causes a p is plan places stamps row x (candidate row on) at)))
 
   library_made_with : (row : ℕ) (x : Taken) (parts : NewLibrary) (file : Option (List ℕ)) → slice_get n.files.now row ≡ Some x → spec.is_stale stale row ≡ true → is_library_row n row ≡ true → IsNew n row parts → file ≡ changes.prelinked files a.region run x.name → made_with x parts file ≡ meant x
@@ -193,12 +158,12 @@ module _ (n : Numbered) (links : List Link) (causes : List (Option Skip)) (a : A
   library_made_with row x parts None at on library new none = large_made row x at on none
   library_made_with row x parts (Some file) at on library new some =
       let kind : is_library new.firm.object.kind ≡ true = library_firm n row new.firm new.at library in
-      let numbers = library_numbers n links causes a p is plan places stamps row x new.firm.object (candidate row on) at (library_object row x parts at new) kind in
-      let firm : firm_by n row x new.firm.object ≡ new.firm = library_firm_is row x parts at new in
+      let numbers = library_numbers n links causes a p is plan places stamps row x new.firm.object (candidate row on) at (library_object n row x parts at new) kind in
+      let firm : firm_by n row x new.firm.object ≡ new.firm = library_firm_is n row x parts at new in
       let slot : parts.slot ≡ (changes.numbers files a.region run).slot x.name = new.slot ∙ (sym (ap (λ (r : Firm). r.member.slot) firm) ∙ numbers.0) in
       let stamp : parts.stamp ≡ (changes.numbers files a.region run).stamp x.name = new.stamp ∙ (sym (ap (λ (r : Firm). r.member.stamp) firm) ∙ numbers.1) in
       let row_known : IsRow a.region n.files.now x = known row x at in
-      let entry : is_library_entry (entry_in x.bytes) ≡ true = ap is_library_entry (sym (entry_of a.region n.files.now x row_known)) ∙ (library_entry x.entry new.firm.object (library_object row x parts at new) ∙ kind) in
+      let entry : is_library_entry (entry_in x.bytes) ≡ true = ap is_library_entry (sym (entry_of a.region n.files.now x row_known)) ∙ (library_entry x.entry new.firm.object (library_object n row x parts at new) ∙ kind) in
       let state : states.Library false parts.slot parts.stamp ≡ reports.state_in x.name false (marked_in file) =
       ap (λ (s : ℕ). states.Library false s parts.stamp) slot
       ∙ (ap (λ (s : ℕ). states.Library false ((changes.numbers files a.region run).slot x.name) s) stamp
@@ -216,7 +181,7 @@ module _ (n : Numbered) (links : List Link) (causes : List (Option Skip)) (a : A
       record { may = tt; meant = program_made row x program at on made.0 made.1.1 new }
   stale_outcome row x (outcomes.Library parts) at on made =
       record {
-        may = library_may row x parts at made.1.1;
+        may = library_may n row x parts at made.1.1;
         meant = library_made_with row x parts (storable_library x parts Two) at on made.0 made.1.1 (library_file_is row x parts at on made.0 made.1.0 made.1.1);
       }
 

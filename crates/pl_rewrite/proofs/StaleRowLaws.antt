@@ -25,7 +25,7 @@ use Rattle.pl_rewrite.proofs.StaleLaws.{held_before_more, held_none, held_walk}
 
 -- ---- flags
 
-set_within : (flags : List Bool) (row : ℕ) → is_set (slice_get flags row) ≡ true → row < length flags
+pub set_within : (flags : List Bool) (row : ℕ) → is_set (slice_get flags row) ≡ true → row < length flags
 set_within [] row on = absurd (false≢true on)
 set_within (b ∷ flags) zero on = omega arith
 set_within (b ∷ flags) (suc row) on = omega (arith, set_within flags row on)
@@ -39,11 +39,11 @@ flagged_at (x ∷ rows) r on = elim (or_cases (x == r) (list_any (λ y. y == r) 
 ]
 
 -- a row that is held is of the walk of a stale program
-record IsHeldBy (n : Numbered) (stale : List Bool) (row : ℕ) : Type 0 where
-  program : ℕ
-  stands : is_stale_program n stale program ≡ true
-  member : ℕ
-  at : slice_get (walk_of n program) member ≡ Some row
+pub record IsHeldBy (n : Numbered) (stale : List Bool) (row : ℕ) : Type 0 where
+  pub program : ℕ
+  pub stands : is_stale_program n stale program ≡ true
+  pub member : ℕ
+  pub at : slice_get (walk_of n program) member ≡ Some row
 
 held_by_one : (n : Numbered) (stale : List Bool) (program row : ℕ) → flagged (held_by n stale program) row ≡ true → IsHeldBy n stale row
 held_by_one n stale program row on = elim (cases_Bool (is_stale_program n stale program)) [
@@ -59,7 +59,7 @@ none_before : (n : Numbered) (stale : List Bool) (row : ℕ) → false ≡ is_he
 unfolding is_held_before
 none_before n stale row = refl
 
-held_from : (n : Numbered) (stale : List Bool) (size row : ℕ) → is_held_before n stale size row ≡ true → IsHeldBy n stale row
+pub held_from : (n : Numbered) (stale : List Bool) (size row : ℕ) → is_held_before n stale size row ≡ true → IsHeldBy n stale row
 held_from n stale zero row on = absurd (false≢true (none_before n stale row ∙ on))
 held_from n stale (suc size) row on = elim (or_cases (is_held_before n stale size row) (flagged (held_by n stale size) row) (held_before_more n stale size row ∙ on)) [
   | inl before ↦ held_from n stale size row before

@@ -70,7 +70,7 @@ walked_versions rs ss are = same_each (List ℕ × Object) (λ r. (r.member.name
 
 -- ---- all members in one version
 
-pub all_in : Version → List Firm → List Firm
+abbrev pub all_in : Version → List Firm → List Firm
 all_in version [] = []
 all_in version (r ∷ rs) = versioned (number_of version) r ∷ all_in version rs
 

@@ -89,10 +89,10 @@ IsFill f place fill = (fill.address ≡ place.0.address) × FillsBy f place.0 pl
 abbrev pub place_of : Reloc → Meaning → List (Reloc × Meaning)
 place_of r g = if has_place r then (r, g) ∷ [] else []
 
-unfoldable pub places_of : List Reloc → List Meaning → List (Reloc × Meaning)
-places_of [] gs = []
-places_of (r ∷ rs) [] = []
-places_of (r ∷ rs) (g ∷ gs) = place_of r g ++ places_of rs gs
+unfoldable pub given_places : List Reloc → List Meaning → List (Reloc × Meaning)
+given_places [] gs = []
+given_places (r ∷ rs) [] = []
+given_places (r ∷ rs) (g ∷ gs) = place_of r g ++ given_places rs gs
 
 -- the fill of one relocation stands behind others, unless it is NONE
 pub record AddsFill (f : Filling) (r : Reloc) (g : Meaning) (before after : List form.Fill) : Type 0 where
@@ -102,4 +102,4 @@ pub record AddsFill (f : Filling) (r : Reloc) (g : Meaning) (before after : List
 
 -- one for each relocation that is not NONE, in their order
 abbrev pub AreProgramFills : Filling → List Reloc → List Meaning → List form.Fill → Type 0
-AreProgramFills f rs gs fills = AllZip (IsFill f) (places_of rs gs) fills
+AreProgramFills f rs gs fills = AllZip (IsFill f) (given_places rs gs) fills

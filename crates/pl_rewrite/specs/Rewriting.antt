@@ -12,13 +12,11 @@ use Rattle.pl_elf.specs.declared.range.Range.{Range}
 use Rattle.pl_rewrite.specs.Changes.{changes, is_given, next_cache}
 use Rattle.pl_cone.specs.Faulted.{is_memory}
 use Rattle.pl_cone.specs.declared.plan.RowPlan.{RowPlan}
-use Rattle.pl_rewrite.specs.Outcomes as outcomes
 use Rattle.pl_rewrite.specs.Outcomes.{IsOutcome, planned_of}
 use Rattle.pl_rewrite.specs.Reports.{report, row_of}
 use Rattle.pl_rewrite.specs.declared.outcome.RowOutcome.{RowOutcome}
 use Rattle.pl_rewrite.specs.declared.rewriting.Decided.{Decided}
 use Rattle.pl_rewrite.specs.declared.finishing.MadeFiles.{MadeFiles}
-use Rattle.pl_rewrite.specs.declared.finishing.Made.{Made}
 use Rattle.pl_rewrite.specs.declared.rewriting.Rewritten.{Rewritten}
 
 abbrev pub rewritten : Files → List (List ℕ) → Asked → RunPlan → Rewritten
@@ -41,16 +39,12 @@ unfoldable pub rewrite : Files → List (List ℕ) → Asked → Result Rewritte
 rewrite files ns a = planned files ns a >>= λ p. Ok (rewritten files ns a p)
 
 -- what a run makes of all files, beside its cache
-abbrev pub all_made : Files → List (List ℕ) → Range → RunPlan → MadeFiles
-all_made files ns region p = record {
+abbrev pub run_made : Files → List (List ℕ) → Range → RunPlan → MadeFiles
+run_made files ns region p = record {
   rows = changes files ns region p;
   states = map (row_of files region p) ns;
   given = list_any (is_given files region p) ns;
 }
-
--- with one name more
-abbrev pub with_made : MadeFiles → List ℕ → Made → MadeFiles
-with_made all n made = outcomes.with_made all n made
 
 -- what is made of each of these files by its outcome is what the run makes of it
 pub record AreDecided (ts : List Taken) (a : Asked) (p : RowPlan) (os : List RowOutcome) : Type 0 where

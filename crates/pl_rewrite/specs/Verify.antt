@@ -1,20 +1,21 @@
 -- Whether a file is the prelinked file of the originals that are there.
-use Rattle.std.specs.Prelude.{◌≡◌, ◌<◌, ◌==◌, ◌||◌, length, ℕ, zero, suc, Bool, false, List, [], ◌∷◌, ◌++◌, slice_get, Option, Some, None, is_some, if◌then◌else◌}
-use Rattle.std.specs.List.{list_all, list_any}
+use Rattle.std.specs.Prelude.{◌≡◌, ◌≤◌, ℕ, Bool, true, false, List, [], length, slice_get, Option, Some, None, is_some, if◌then◌else◌}
+use Rattle.std.specs.List.{list_all}
 use Rattle.std.specs.Str.{bytes_eq}
 use Rattle.std.specs.Option.{option_and_then}
 use Rattle.pl_conflict.specs.Format.{format}
 use Rattle.pl_form.specs.declared.file.Marked.{Marked}
 use Rattle.pl_cone.specs.Skipped.{skip_causes}
 use Rattle.pl_cone.specs.Taken.{files_in, marked_by}
+use Rattle.pl_cone.specs.declared.link.Link.{Link}
 use Rattle.pl_cone.specs.declared.taken.Taken.{Taken}
 use Rattle.law_sound.specs.Rule as sound
 use Rattle.law_sound.specs.Rule.{Files, original_at}
 use Rattle.pl_form.specs.declared.version.Version.{Version}
-use Rattle.pl_rewrite.specs.Rows.{file_meant, walk_of}
-use Rattle.pl_rewrite.specs.RowWords.{own_words_at}
+use Rattle.pl_rewrite.specs.Rows.{IsFileMeant, IsWalkRow, walk_of}
+use Rattle.pl_rewrite.specs.RowWords.{IsLinkAt, is_needed}
 use Rattle.pl_rewrite.specs.declared.numbers.Numbered.{Numbered}
-use Rattle.pl_rewrite.specs.declared.row_words.RowWords.{RowWords}
+use Rattle.pl_rewrite.specs.declared.row_words.Needed.{Needed}
 
 -- the file of a name is marked, and is the prelinked file of its walk's originals, at the versions, slots and stamps that their files bear
 abbrev pub is_verified : Files → List ℕ → Bool
@@ -29,9 +30,6 @@ abbrev pub verified_original : Files → List ℕ → Option (List ℕ)
 verified_original files n = if is_verified files n then Some (original_at (format skip_causes) (files n)) else None
 
 -- ---- files that were taken
-
-abbrev pub is_named : List ℕ → Taken → Bool
-is_named n t = bytes_eq t.name n
 
 abbrev pub slot_by : Option Marked → ℕ
 slot_by None = 0
@@ -53,20 +51,16 @@ is_marked_at ts row = is_some (option_and_then (λ t. marked_by t.entry) (slice_
 abbrev pub are_marked : List Taken → List ℕ → Bool
 are_marked ts rows = list_all (is_marked_at ts) rows
 
--- flags of so many rows, set for these
-unfoldable pub flags_of : ℕ → List ℕ → List Bool
-flags_of zero rows = []
-flags_of (suc count) rows = flags_of count rows ++ list_any (λ r. r == count) rows ∷ []
-
 -- ---- the file that is meant of a row
 
--- at the slots and stamps of the files, in a version
-abbrev pub IsMeantAt : Numbered → ℕ → Version → Option (List ℕ) → Type 0
-IsMeantAt n row version file = file ≡ file_meant n row version
+-- a row that has a walk is the first of it, and its members have forms
+abbrev pub IsWalkOrNone : Numbered → ℕ → Type 0
+IsWalkOrNone n row = 1 ≤ length (walk_of n row) → IsWalkRow n row
 
-abbrev pub name_of : Option Taken → List ℕ
-name_of None = []
-name_of (Some t) = t.name
+-- none where there is no walk
+pub record IsMeantOrNone (n : Numbered) (row : ℕ) (version : Version) (file : Option (List ℕ)) : Type 0 where
+  pub none : walk_of n row ≡ [] → file ≡ None
+  pub meant : IsWalkRow n row → IsFileMeant n row version file
 
 -- where the file of the row bears the version
 abbrev pub IsMeantIn : List Taken → ℕ → Version → Option (List ℕ) → Type 0
@@ -76,13 +70,18 @@ abbrev pub is_same : Option (List ℕ) → List ℕ → Bool
 is_same None bytes = false
 is_same (Some file) bytes = bytes_eq file bytes
 
+-- the file of a row is prelinked, and this is its mark
+abbrev pub IsMarkOf : List Taken → ℕ → Marked → Type 0
+IsMarkOf ts row m = (t : Taken) → slice_get ts row ≡ Some t → marked_by t.entry ≡ Some m
+
 abbrev pub IsOriginalIfMeant : List Taken → ℕ → Option (List ℕ) → Type 0
 IsOriginalIfMeant ts row original = (t : Taken) → slice_get ts row ≡ Some t → original ≡ verified_original (files_in ts) t.name
 
--- the own words of the library of a row are there
-abbrev pub HasWords : Numbered → ℕ → List RowWords → Type 0
-HasWords n row all = (row < length all) × ((s : RowWords) → slice_get all row ≡ Some s → s.words ≡ own_words_at n row)
+-- ---- what the relocations of rows find
 
--- the rows whose links are needed: it, and of a program the members of its walk
-abbrev pub is_used : Numbered → ℕ → ℕ → Bool
-is_used n row other = (other == row) || list_any (λ r. r == other) (walk_of n row)
+-- each row that is needed has a walk
+abbrev pub HaveNeededWalks : Numbered → Needed → Type 0
+HaveNeededWalks n needed = (row : ℕ) → is_needed needed row ≡ true → IsWalkRow n row
+
+abbrev pub IsLinkIf : Numbered → Needed → ℕ → Link → Type 0
+IsLinkIf n needed row l = is_needed needed row ≡ true → IsLinkAt n row l

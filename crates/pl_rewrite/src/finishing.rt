@@ -185,7 +185,7 @@ fn add_row(rows: &mut Rows<Change>, row: Option<Change>) -> Result<(), AllocErro
 
 /// Adds what a run makes of the file of a name.
 fn add_made(all: MadeFiles, name: Text, made: Made) -> Result<MadeFiles, AllocError>
-    ensures { IfOk result (λ more. more ≡ spec.with_made all name made) }
+    ensures { IfOk result (λ more. more ≡ told.with_made all name made) }
 {
     let MadeFiles {
         mut rows,

@@ -1,5 +1,5 @@
 // What a run makes of each file.
-ghost use Rattle.std.specs.Prelude.{◌≡◌, ◌<◌, IfOk, length};
+ghost use Rattle.std.specs.Prelude.{◌≡◌, ◌<◌, IfOk, None, length};
 ghost use Rattle.std.specs.Option.{option_or};
 ghost use Rattle.pl_rewrite.specs.Outcomes as spec;
 ghost use Rattle.pl_rewrite.specs.Digests as told_digests;
@@ -51,16 +51,29 @@ fn current_state(marked: &Marked) -> RowState
     }
 }
 
+/// What a run makes of a file that stays; one that is not prelinked gets its original, as its form is too large.
+fn stays(alloc: Global, taken: &Taken) -> Result<RowOutcome, AllocError>
+    ensures { IfOk result (spec.KeepsFile taken.now None) }
+{
+    match taken.marked() {
+        Some(marked) => {
+            let state = current_state(marked);
+            Ok(RowOutcome::Unchanged(state))
+        }
+        None => {
+            let cause = too_large(alloc, taken)?;
+            Ok(RowOutcome::Original(cause))
+        }
+    }
+}
+
 /// What a run makes of a file that is not made anew: it stays, or gets its original.
 fn kept(alloc: Global, taken: &Taken, cause: Option<Skip>) -> Result<RowOutcome, AllocError>
     ensures { IfOk result (spec.KeepsFile taken.now cause) }
 {
-    if let Some(cause) = cause {
-        return Ok(RowOutcome::Original(cause));
-    }
-    match taken.marked() {
-        Some(marked) => Ok(RowOutcome::Unchanged(current_state(marked))),
-        None => Ok(RowOutcome::Original(too_large(alloc, taken)?)),
+    match cause {
+        Some(cause) => Ok(RowOutcome::Original(cause)),
+        None => stays(alloc, taken),
     }
 }
 
@@ -107,7 +120,7 @@ fn held_by<'t>(numbered: &Numbered<'t>, stale: &[bool], row: usize) -> &'t [u32]
 }
 
 /// A flag for each row, set where the walk of a stale program holds it.
-fn held_by_programs(
+pub fn held_by_programs(
     alloc: Global,
     numbered: &Numbered<'_>,
     stale: &[bool],
@@ -298,11 +311,14 @@ fn made_of(
     let held = flags.as_slice();
     let made = digests_of(alloc, numbered.files, stale)?;
     let digests = made.as_slice();
-    let needed = Needed { made: stale, held };
+    let needed = Needed {
+        made: &*stale,
+        held,
+    };
     let row_words = words_of_rows(alloc, numbered, links, &needed)?;
     let told = row_words.as_slice();
     let work = Work {
-        numbered,
+        numbered: &*numbered,
         row_words: told,
         digests,
     };

@@ -139,7 +139,7 @@ fn file_with(
     let linking = WalkLinking {
         scope: &placed.walk.scope,
         places: &placed.places,
-        modules,
+        modules: &*modules,
         among,
     };
     match contents_of(alloc, work, row, &linking) {

@@ -118,7 +118,7 @@ fn kept_if(alloc: Global, words: &[Option<u64>], asked: bool) -> Result<OwnWords
 }
 
 /// Whether anything is asked of a row.
-fn is_needed(needed: &Needed<'_>, row: usize) -> bool
+pub fn is_needed(needed: &Needed<'_>, row: usize) -> bool
     requires made { row < length needed.now.made.now }
     requires held { row < length needed.now.held.now }
     ensures { result ≡ by_rows.is_needed needed.now row }

@@ -1,22 +1,24 @@
 // Whether a file is the prelinked file of the originals that are there.
-ghost use Rattle.std.specs.Prelude.{◌≡◌, ◌<◌, true, IfOk, Some, length, map};
+ghost use Rattle.std.specs.Prelude.{◌≡◌, ◌<◌, [], ◌∷◌, IfOk, is_some, length, map};
 ghost use Rattle.std.specs.Option.{option_map};
-ghost use Rattle.pl_cone.specs.Table.{AreBelow};
-ghost use Rattle.pl_cone.specs.Taken.{WereTaken, files_in};
+ghost use Rattle.pl_cone.specs.Taken.{WereTaken, files_in, marked_by};
 ghost use Rattle.pl_rewrite.specs.Contents as contents;
-ghost use Rattle.pl_rewrite.specs.Digests.{AreDigests};
+ghost use Rattle.pl_rewrite.specs.Digests.{HaveDigests};
+ghost use Rattle.pl_rewrite.specs.Flags.{AreFlagsOf};
 ghost use Rattle.pl_rewrite.specs.Rows as rows;
 ghost use Rattle.pl_rewrite.specs.RowWords as by_rows;
 ghost use Rattle.pl_rewrite.specs.Verify as spec;
 
+use crate::flags::flags_of;
 use crate::library::{new_library, storable_library};
 use crate::lists::digests_of;
 use crate::numbers::Numbered;
-use crate::outcome::NewProgram;
+use crate::outcomes::held_by_programs;
+use crate::own_words::OwnWords;
 use crate::program::{Work, program_file};
-use crate::row_words::{Needed, RowWords, words_of_rows};
+use crate::row_words::{Needed, RowWords, is_needed, words_of_rows};
 use pl_base::Rows;
-use pl_cone::{Link, RunTable, Taken};
+use pl_cone::{Link, RunTable, Taken, WalkScope, library_link, row_of};
 use pl_form::{Marked, Version};
 use pl_io::NoMemory;
 use std::alloc::{AllocError, Global};
@@ -63,25 +65,88 @@ fn stamps_borne(alloc: Global, files: &[Taken]) -> Result<Rows<u32>, AllocError>
     Ok(stamps)
 }
 
+/// Whether a file is prelinked.
+fn is_marked(taken: &Taken) -> bool
+    ensures { result ≡ is_some (marked_by taken.now.entry) }
+{
+    match taken.marked() {
+        None => false,
+        Some(_) => true,
+    }
+}
+
 /// Whether the files of rows are prelinked.
 fn are_marked(files: &[Taken], walk: &[u32]) -> bool
     requires { rows.AreRowsOf files.now walk.now }
     ensures { result ≡ spec.are_marked files.now walk.now }
 {
-    walk.iter()
-        .all(|row| files[*row as usize].marked().is_some())
+    for row in walk {
+        if !is_marked(&files[*row as usize]) {
+            return false;
+        }
+    }
+    true
 }
 
-/// A flag for each of so many rows, set for these.
-fn flags_of(alloc: Global, count: usize, walk: &[u32]) -> Result<Vec<bool>, AllocError>
-    requires { AreBelow count walk.now }
-    ensures { IfOk result (λ v. v.items ≡ spec.flags_of count walk.now) }
+/// What the relocations of the file of a row find.
+fn link_at(alloc: Global, numbered: &Numbered<'_>, row: usize) -> Result<Link, NoMemory>
+    requires numbered { rows.IsNumbered numbered.now }
+    requires row { rows.IsWalkRow numbered.now row }
+    ensures { IfOk result (by_rows.IsLinkAt numbered.now row) }
 {
-    let mut flags = Vec::from_elem(alloc, false, count)?;
-    for row in walk {
-        flags[*row as usize] = true;
+    let files = numbered.files;
+    let members = numbered.walk(row);
+    let walk = WalkScope::of(alloc, files, members)?;
+    let link = library_link(alloc, &walk, numbered.index)?;
+    let library = files[row].is_library();
+    if library {
+        return Ok(link);
     }
-    Ok(flags)
+    let Link { found, .. } = link;
+    Ok(Link {
+        found,
+        remaining: Rows::new(alloc),
+    })
+}
+
+/// The same where it is needed; else of no relocations.
+fn link_if(
+    alloc: Global,
+    numbered: &Numbered<'_>,
+    needed: &Needed<'_>,
+    row: usize,
+) -> Result<Link, NoMemory>
+    requires numbered { rows.IsNumbered numbered.now }
+    requires needed { by_rows.IsNeeded numbered.now needed.now }
+    requires row { row < length numbered.now.files.now }
+    requires walks { spec.HaveNeededWalks numbered.now needed.now }
+    ensures { IfOk result (spec.IsLinkIf numbered.now needed.now row) }
+{
+    let asked = is_needed(needed, row);
+    if !asked {
+        return Ok(Link::none(alloc));
+    }
+    link_at(alloc, numbered, row)
+}
+
+/// What the relocations of the rows that are needed find.
+fn links_for(
+    alloc: Global,
+    numbered: &Numbered<'_>,
+    needed: &Needed<'_>,
+) -> Result<Rows<Link>, NoMemory>
+    requires numbered { rows.IsNumbered numbered.now }
+    requires needed { by_rows.IsNeeded numbered.now needed.now }
+    requires walks { spec.HaveNeededWalks numbered.now needed.now }
+    ensures { IfOk result (by_rows.AreLinks numbered.now (by_rows.is_needed needed.now)) }
+{
+    let count = numbered.files.len();
+    let mut links = Rows::new(alloc);
+    for row in 0..count {
+        let link = link_if(alloc, numbered, needed, row)?;
+        links.push(link)?;
+    }
+    Ok(links)
 }
 
 /// The prelinked file of the library of a row, in a version.
@@ -89,22 +154,24 @@ fn library_meant(
     alloc: Global,
     numbered: &Numbered<'_>,
     digests: &[Option<[u8; 32]>],
-    row_words: Vec<RowWords>,
+    words: OwnWords,
     row: usize,
     version: Version,
 ) -> Result<Option<Vec<u8>>, NoMemory>
     requires numbered { rows.IsNumbered numbered.now }
     requires row { rows.IsLibraryRow numbered.now row }
-    requires digests { AreDigests numbered.now.files.now digests.now }
-    requires row_words { spec.HasWords numbered.now row row_words.items }
-    ensures { IfOk result (spec.IsMeantAt numbered.now row version) }
+    requires digests { HaveDigests numbered.now digests.now }
+    requires words { words ≡ by_rows.own_words_at numbered.now row }
+    ensures { IfOk result (λ file. rows.IsFileMeant numbered.now row version
+        (option_map (λ v. v.items) file)) }
 {
-    let mut row_words = row_words;
-    let RowWords { words, .. } = row_words.remove(row);
-    match new_library(alloc, numbered, digests, row, words)? {
-        None => Ok(None),
-        Some(parts) => storable_library(alloc, &numbered.files[row], &parts, version),
-    }
+    let made = new_library(alloc, numbered, digests, row, words)?;
+    let Some(parts) = made else {
+        return Ok(None);
+    };
+    let taken = &numbered.files[row];
+    let file = storable_library(alloc, taken, &parts, version)?;
+    Ok(file)
 }
 
 /// The prelinked file of the program of a row, in a version.
@@ -117,52 +184,77 @@ fn program_meant(
     requires work { contents.IsWork work.now }
     requires row { row < length work.now.numbered.now.files.now }
     requires program { contents.IsProgramRow work.now row }
-    ensures { IfOk result (spec.IsMeantAt work.now.numbered.now row version) }
+    ensures { IfOk result (λ file. rows.IsFileMeant work.now.numbered.now row version
+        (option_map (λ v. v.items) file)) }
 {
-    match program_file(alloc, work, row, version)? {
+    let made = program_file(alloc, work, row, version)?;
+    match made {
         None => Ok(None),
-        Some(NewProgram { file, .. }) => Ok(Some(file)),
+        Some(program) => Ok(Some(program.file)),
     }
 }
 
-/// The file that is meant of a row whose name may be prelinked, at the slots and stamps that the files bear.
-fn meant_with(
+/// The file that is meant of a row, by what the relocations of the files find that it is made of; `stale` flags it alone.
+fn meant_by(
     alloc: Global,
     numbered: &Numbered<'_>,
-    links: Rows<Link>,
+    stale: &[bool],
     row: usize,
     version: Version,
 ) -> Result<Option<Vec<u8>>, NoMemory>
     requires numbered { rows.IsNumbered numbered.now }
-    requires row { row < length numbered.now.files.now }
     requires walk { rows.IsWalkRow numbered.now row }
-    requires links { by_rows.AreLinks numbered.now (spec.is_used numbered.now row) links }
-    ensures { IfOk result (spec.IsMeantAt numbered.now row version) }
+    requires stale { AreFlagsOf (length numbered.now.files.now) (row ∷ []) stale.now }
+    ensures { IfOk result (λ file. rows.IsFileMeant numbered.now row version
+        (option_map (λ v. v.items) file)) }
 {
-    let count = numbered.files.len();
-    let none = flags_of(alloc, count, &[])?;
-    let digests = digests_of(alloc, numbered.files, &none)?;
-    let made = flags_of(alloc, count, &[row as u32])?;
-    if numbered.files[row].is_library() {
-        let needed = Needed {
-            made: &made,
-            held: &none,
-        };
-        let row_words = words_of_rows(alloc, numbered, links, &needed)?;
-        return library_meant(alloc, numbered, &digests, row_words, row, version);
-    }
-    let held = flags_of(alloc, count, numbered.walk(row))?;
+    let flags = held_by_programs(alloc, numbered, stale)?;
+    let held = flags.as_slice();
     let needed = Needed {
-        made: &made,
-        held: &held,
+        made: &*stale,
+        held,
     };
-    let row_words = words_of_rows(alloc, numbered, links, &needed)?;
+    let links = links_for(alloc, numbered, &needed)?;
+    let mut row_words = words_of_rows(alloc, numbered, links, &needed)?;
+    let made = digests_of(alloc, numbered.files, stale)?;
+    let digests = made.as_slice();
+    let library = numbered.files[row].is_library();
+    if library {
+        let one = row_words.remove(row);
+        let RowWords { words, .. } = one;
+        return library_meant(alloc, numbered, digests, words, row, version);
+    }
+    let told = row_words.as_slice();
     let work = Work {
-        numbered,
-        row_words: &row_words,
-        digests: &digests,
+        numbered: &*numbered,
+        row_words: told,
+        digests,
     };
     program_meant(alloc, &work, row, version)
+}
+
+/// The file that is meant of a row: that of the members of its walk, at the slots and stamps that are told. None where its walk is refused.
+fn meant_with(
+    alloc: Global,
+    numbered: &Numbered<'_>,
+    row: usize,
+    version: Version,
+) -> Result<Option<Vec<u8>>, NoMemory>
+    requires numbered { rows.IsNumbered numbered.now }
+    requires walk { spec.IsWalkOrNone numbered.now row }
+    ensures { IfOk result (λ file. spec.IsMeantOrNone numbered.now row version
+        (option_map (λ v. v.items) file)) }
+{
+    let walk = numbered.walk(row);
+    let [first, ..] = walk else {
+        return Ok(None);
+    };
+    let one = [*first];
+    let count = numbered.files.len();
+    let flags = flags_of(alloc, count, &one)?;
+    let stale = flags.as_slice();
+    let file = meant_by(alloc, numbered, stale, row, version)?;
+    Ok(file)
 }
 
 /// The file that is meant of a row: that of its walk's originals, in a version, at the slots and stamps that their files bear. None where there is none.
@@ -172,33 +264,36 @@ fn meant(
     row: usize,
     version: Version,
 ) -> Result<Option<Vec<u8>>, NoMemory>
-    requires { WereTaken files.now }
-    ensures { IfOk result (spec.IsMeantIn files.now row version) }
+    requires taken { WereTaken files.now }
+    requires row { row < length files.now }
+    ensures { IfOk result (λ file. spec.IsMeantIn files.now row version
+        (option_map (λ v. v.items) file)) }
 {
     let table = RunTable::of(alloc, files)?;
-    if !table.is_candidate(row) || !are_marked(files, table.walk(row)) {
+    let RunTable { walks, index, .. } = table;
+    let slots = slots_borne(alloc, files)?;
+    let times = stamps_borne(alloc, files)?;
+    let rows = walks.as_slice();
+    let places = slots.as_slice();
+    let stamps = times.as_slice();
+    let numbered = Numbered {
+        files: &*files,
+        walks: rows,
+        index: &index,
+        places,
+        stamps,
+    };
+    let walk = numbered.walk(row);
+    let marked = are_marked(files, walk);
+    if !marked {
         return Ok(None);
     }
-    let places = slots_borne(alloc, files)?;
-    let stamps = stamps_borne(alloc, files)?;
-    let RunTable {
-        walks,
-        index,
-        links,
-        ..
-    } = table;
-    let numbered = Numbered {
-        files,
-        walks: walks.as_slice(),
-        index: &index,
-        places: places.as_slice(),
-        stamps: stamps.as_slice(),
-    };
-    meant_with(alloc, &numbered, links, row, version)
+    let file = meant_with(alloc, &numbered, row, version)?;
+    Ok(file)
 }
 
 /// Whether a file that may be there is this one.
-fn is_same(file: Option<Vec<u8>>, bytes: &[u8]) -> bool
+fn is_file(file: Option<Vec<u8>>, bytes: &[u8]) -> bool
     ensures { result ≡ spec.is_same (option_map (λ v. v.items) file) bytes.now }
 {
     match file {
@@ -214,20 +309,37 @@ fn original_if_meant<'f>(
     row: usize,
     marked: &'f Marked,
 ) -> Result<Option<&'f [u8]>, NoMemory>
-    requires { WereTaken files.now }
-    ensures { IfOk result (spec.IsOriginalIfMeant files.now row) }
+    requires taken { WereTaken files.now }
+    requires row { row < length files.now }
+    requires marked { spec.IsMarkOf files.now row marked.now }
+    ensures { IfOk result (λ original. spec.IsOriginalIfMeant files.now row
+        (option_map (λ bytes. bytes.now) original)) }
 {
     let file = meant(alloc, files, row, marked.version)?;
-    if is_same(file, files[row].bytes.as_slice()) {
-        return Ok(Some(marked.original.as_slice()));
+    let bytes = files[row].bytes.as_slice();
+    let same = is_file(file, bytes);
+    if !same {
+        return Ok(None);
     }
-    Ok(None)
+    Ok(Some(marked.original.as_slice()))
 }
 
-fn is_named(taken: &Taken, name: &str) -> bool
-    ensures { result ≡ spec.is_named name.now taken.now }
+/// The original of the file of a row, if that is prelinked and is the one that is meant.
+fn original_at<'f>(
+    alloc: Global,
+    files: &'f [Taken],
+    row: usize,
+) -> Result<Option<&'f [u8]>, NoMemory>
+    requires taken { WereTaken files.now }
+    requires row { row < length files.now }
+    ensures { IfOk result (λ original. spec.IsOriginalIfMeant files.now row
+        (option_map (λ bytes. bytes.now) original)) }
 {
-    taken.name.as_str() == name
+    let taken = &files[row];
+    match taken.marked() {
+        None => Ok(None),
+        Some(marked) => original_if_meant(alloc, files, row, marked),
+    }
 }
 
 /// The original of the file of a name, where that is prelinked, and is byte for byte the file that the originals of its walk give, with the versions, slots and stamps that their files bear; None where it is not. It fails only for want of memory.
@@ -242,13 +354,10 @@ pub fn verified_original<'f>(
     ensures { IfOk result (λ original. option_map (λ bytes. bytes.now) original
         ≡ spec.verified_original (files_in files.now) name.now) }
 {
-    let Some(row) = files.iter().position(|taken| is_named(taken, name)) else {
+    let Some(row) = row_of(files, name) else {
         return Ok(None);
     };
-    match files[row].marked() {
-        None => Ok(None),
-        Some(marked) => original_if_meant(alloc, files, row, marked),
-    }
+    original_at(alloc, files, row)
 }
 
 /// Whether the file of a name is prelinked, and is byte for byte the file that the originals of its walk give, with the versions, slots and stamps that their files bear. It fails only for want of memory.
@@ -258,5 +367,9 @@ pub fn is_verified(alloc: Global, files: &[Taken], name: &str) -> Result<bool, N
     requires { WereTaken files.now }
     ensures { IfOk result (λ verified. verified ≡ spec.is_verified (files_in files.now) name.now) }
 {
-    Ok(verified_original(alloc, files, name)?.is_some())
+    let original = verified_original(alloc, files, name)?;
+    match original {
+        None => Ok(false),
+        Some(_) => Ok(true),
+    }
 }

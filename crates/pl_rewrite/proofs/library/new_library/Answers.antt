@@ -11,7 +11,7 @@ pub are_set-requires-clause-sources : goal.are_set-requires-clause-sources
 are_set-requires-clause-sources c = c.requires.row.walk.sources
 
 pub returns-then-not-set : goal.returns-then-not-set
-returns-then-not-set c = sym c.in_ok-set.ensures ∙ c.if-set.false
+returns-then-not-set c = sym c.in_ok-set.ensures ∙ c.if-not-set.true
 
 pub digest_at-requires-clause-taken : goal.digest_at-requires-clause-taken
 digest_at-requires-clause-taken c = numbered_read c.args.numbered.now c.requires.numbered
@@ -24,6 +24,6 @@ list_of-requires-clause-rows c = c.requires.row.walk.rows
 
 pub returns : goal.returns
 returns c =
-    new_made c.args.numbered.now c.args.row _ c.requires.numbered c.requires.row.within c.requires.row.walk c.requires.row.library (sym c.in_ok-set.ensures ∙ c.if-set.true)
+    new_made c.args.numbered.now c.args.row _ c.requires.numbered c.requires.row.within c.requires.row.walk c.requires.row.library (sym c.in_ok-set.ensures ∙ c.if-not-set.false)
     (column_at c.args.numbered.now.places.now c.args.row _ (omega (arith, c.requires.row.within, c.requires.numbered.places))) (column_at c.args.numbered.now.stamps.now c.args.row _ (omega (arith, c.requires.row.within, c.requires.numbered.stamps)))
     c.digest_at.ensures c.in_ok-list.ensures c.requires.words

@@ -26,9 +26,9 @@ form_library_with-requires-clause-digest c = (has_form c.args.taken.now c.args.p
 pub returns-then-not-is_stored : goal.returns-then-not-is_stored
 returns-then-not-is_stored c =
     file_sized c.args.taken.now c.args.parts.now c.args.version c.in-Some.object.now c.original.result.now c.as_slice.result.now c.as_slice-2.result.now c.in_ok-file.file.items false c.in-Some.ensures c.original.ensures c.as_slice.ensures (c.as_slice-2.ensures ∙ c.in_ok-words.ensures) c.in_ok-file.ensures.form
-    (sym c.if-is_stored.false ∙ c.is_stored.ensures ∙ ap (λ (fs : List ℕ). nat_le (length fs) STORED) c.deref.ensures.value)
+    (sym c.if-not-is_stored.true ∙ c.is_stored.ensures ∙ ap (λ (fs : List ℕ). nat_le (length fs) STORED) c.deref.ensures.value)
 
 pub returns : goal.returns
 returns c =
     file_sized c.args.taken.now c.args.parts.now c.args.version c.in-Some.object.now c.original.result.now c.as_slice.result.now c.as_slice-2.result.now c.in_ok-file.file.items true c.in-Some.ensures c.original.ensures c.as_slice.ensures (c.as_slice-2.ensures ∙ c.in_ok-words.ensures) c.in_ok-file.ensures.form
-    (sym c.if-is_stored.true ∙ c.is_stored.ensures ∙ ap (λ (fs : List ℕ). nat_le (length fs) STORED) c.deref.ensures.value)
+    (sym c.if-not-is_stored.false ∙ c.is_stored.ensures ∙ ap (λ (fs : List ℕ). nat_le (length fs) STORED) c.deref.ensures.value)

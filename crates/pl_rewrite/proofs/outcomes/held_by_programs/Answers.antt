@@ -1,4 +1,4 @@
-use Rattle.std.proofs.Common.{◌≡◌, ℕ, List, Bool, ap, length, subst, sym, ◌∙◌, arith}
+use Rattle.std.proofs.Common.{◌≡◌, ◌+◌, ℕ, List, Bool, ap, length, subst, sym, ◌∙◌, arith}
 use Rattle.std.proofs.lemmas.List.{take_at}
 use Rattle.pl_cone.specs.Table.{AreBelow}
 use Rattle.pl_rewrite.specs.Outcomes.{AreHeldBefore}
@@ -22,8 +22,8 @@ loop-row-preserved c =
     let after = c.flag_all.new.flags in
     let long : length after ≡ c.loop-row.held.len = omega (arith, c.flag_all.ensures.count, c.deref_mut.ensures.len, ap length c.deref_mut.ensures.value) in
     let flags = rw c.deref_mut.ensures.value at c.flag_all.ensures in
-    subst (λ (fs : List Bool). AreHeldBefore n c.args.stale.now _ fs) (sym (take_at after _ c.loop-row.held.len long))
-    (held_more n c.args.stale.now c.loop-row.row _ c.held_by-walk.result.now before after (omega arith) c.held_by-walk.ensures c.loop-row.invariant flags)
+    subst (λ (fs : List Bool). AreHeldBefore n c.args.stale.now (c.loop-row.row + 1) fs) (sym (take_at after _ c.loop-row.held.len long))
+    (held_more n c.args.stale.now c.loop-row.row (c.loop-row.row + 1) c.held_by-walk.result.now before after (omega arith) c.held_by-walk.ensures c.loop-row.invariant flags)
 
 pub returns : goal.returns
 returns c = held_done c.args.numbered.now c.args.stale.now c.loop-row.held.items c.loop-row.row (omega arith) c.loop-row.invariant

@@ -8,10 +8,10 @@ pub bounds-stale-row : goal.bounds-stale-row
 bounds-stale-row c = omega (arith, c.requires.row, c.requires.one_each)
 
 pub returns-then-not-asked : goal.returns-then-not-asked
-returns-then-not-asked c = not_program c.args.numbered.now c.args.stale.now c.args.row (sym (asked_is c.args.stale.now c.args.row _ (omega (arith, c.requires.row, c.requires.one_each))) ∙ c.if-asked.false)
+returns-then-not-asked c = not_program c.args.numbered.now c.args.stale.now c.args.row (sym (asked_is c.args.stale.now c.args.row _ (omega (arith, c.requires.row, c.requires.one_each))) ∙ c.if-not-asked.true)
 
 pub returns : goal.returns
 returns c =
-    let asked = sym (asked_is c.args.stale.now c.args.row _ (omega (arith, c.requires.row, c.requires.one_each))) ∙ c.if-asked.true in
+    let asked = sym (asked_is c.args.stale.now c.args.row _ (omega (arith, c.requires.row, c.requires.one_each))) ∙ c.if-not-asked.false in
     let at = file_at c.args.numbered.now c.args.row c.index-files-row.result c.requires.row c.index-files-row.is in
     stale_program c.args.numbered.now c.args.stale.now c.args.row c.index-files-row.result c.is_library-library.result asked at c.is_library-library.ensures

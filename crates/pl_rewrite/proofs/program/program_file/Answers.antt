@@ -13,13 +13,13 @@ pub are_set-requires-clause-sources : goal.are_set-requires-clause-sources
 are_set-requires-clause-sources c = c.requires.program.walk.sources
 
 pub returns-then-not-set : goal.returns-then-not-set
-returns-then-not-set c = not_set c.args.work.now c.args.row c.requires.program c.args.version (sym c.in_ok-set.ensures ∙ c.if-set.false)
+returns-then-not-set c = not_set c.args.work.now c.args.row c.requires.program c.args.version (sym c.in_ok-set.ensures ∙ c.if-not-set.true)
 
 pub placed-requires : goal.placed-requires
 placed-requires c = c.requires.work.numbered
 
 pub file_with-requires-clause-set : goal.file_with-requires-clause-set
-file_with-requires-clause-set c = sym c.in_ok-set.ensures ∙ c.if-set.true
+file_with-requires-clause-set c = sym c.in_ok-set.ensures ∙ c.if-not-set.false
 
 pub file_with-requires-clause-placed : goal.file_with-requires-clause-placed
 file_with-requires-clause-placed c = c.in_ok-placed.ensures
@@ -27,8 +27,8 @@ file_with-requires-clause-placed c = c.in_ok-placed.ensures
 pub returns-in-Ok : goal.returns-in-Ok
 returns-in-Ok c =
     IfOk-weaker c.file_with.result _ _
-    (λ made e. new_program c.args.work.now c.args.row c.requires.program c.args.version c.in_ok-placed.placed.walk.scope c.in_ok-placed.placed c.in-Ok.modules c.as_slice.result.now made (sym c.in_ok-set.ensures ∙ c.if-set.true) c.in_ok-placed.ensures refl c.in-Ok.ensures c.as_slice.ensures e) c.file_with.ensures
+    (λ made e. new_program c.args.work.now c.args.row c.requires.program c.args.version c.in_ok-placed.placed.walk.scope c.in_ok-placed.placed c.in-Ok.modules c.as_slice.result.now made (sym c.in_ok-set.ensures ∙ c.if-not-set.false) c.in_ok-placed.ensures refl c.in-Ok.ensures c.as_slice.ensures e) c.file_with.ensures
 
 pub returns-in-Err-TooLarge : goal.returns-in-Err-TooLarge
 returns-in-Err-TooLarge c =
-    too_large c.args.work.now c.args.row c.requires.program c.args.version c.in_ok-placed.placed.walk.scope c.in_ok-placed.placed _ (sym c.in_ok-set.ensures ∙ c.if-set.true) c.in_ok-placed.ensures refl (rw c.in-Err-TooLarge.field-0-is at c.in-Err-TooLarge.ensures)
+    too_large c.args.work.now c.args.row c.requires.program c.args.version c.in_ok-placed.placed.walk.scope c.in_ok-placed.placed _ (sym c.in_ok-set.ensures ∙ c.if-not-set.false) c.in_ok-placed.ensures refl (rw c.in-Err-TooLarge.field-0-is at c.in-Err-TooLarge.ensures)

@@ -1,0 +1,43 @@
+use Rattle.std.proofs.Common.{◌≡◌, ◌<◌, ◌≤◌, ℕ, Bool, List, [], ◌∷◌, length, get_or, refl, sym, ap, subst, ◌∙◌, arith}
+use Rattle.std.proofs.lemmas.List.Elements.{All-cons, All-nil}
+use Rattle.pl_cone.specs.Table.{AreBelow}
+use Rattle.pl_rewrite.specs.Flags.{AreFlagsOf}
+use Rattle.pl_rewrite.specs.Rows.{IsWalkRow, walk_of}
+use Rattle.pl_rewrite.specs.declared.numbers.Numbered.{Numbered}
+use Rattle.pl_rewrite.proofs.NumberedLaws.{row_within}
+use Rattle.pl_rewrite.proofs.verifying.meant_with.Goals as goal
+
+first_row : (n : Numbered) (row : ℕ) (walk : List ℕ) (first : ℕ) → IsWalkRow n row → walk ≡ walk_of n row → first ≡ get_or walk 0 first → first ≡ row
+first_row n row walk first is same at = at ∙ ap (λ (ks : List ℕ). get_or ks 0 first) (same ∙ is.is)
+
+pub returns-in_default : goal.returns-in_default
+returns-in_default c = record {
+  none = λ e. refl;
+  meant = λ walk. absurd (omega (arith, c.in_default.len_below, ap length c.walk-walk.ensures, ap length walk.is));
+}
+
+pub flags_of-requires : goal.flags_of-requires
+flags_of-requires c =
+    let n = c.args.numbered.now in
+    let walk = c.requires.walk (omega (arith, c.in-len1-up.len_at_least, ap length c.walk-walk.ensures)) in
+    let first = first_row n c.args.row c.walk-walk.result.now c.first-item.result walk c.walk-walk.ensures c.first-item.is in
+    let lt : c.first-item.result < length n.files.now = omega (arith, first, row_within n c.args.row walk) in
+    subst (λ (k : ℕ). AreBelow k (c.first-item.result ∷ [])) (sym c.len-count.ensures) (All-cons (λ (r : ℕ). r < length n.files.now) c.first-item.result [] lt (All-nil (λ (r : ℕ). r < length n.files.now)))
+
+pub meant_by-requires-clause-walk : goal.meant_by-requires-clause-walk
+meant_by-requires-clause-walk c = c.requires.walk (omega (arith, c.in-len1-up.len_at_least, ap length c.walk-walk.ensures))
+
+pub meant_by-requires-clause-stale : goal.meant_by-requires-clause-stale
+meant_by-requires-clause-stale c =
+    let n = c.args.numbered.now in
+    let walk = c.requires.walk (omega (arith, c.in-len1-up.len_at_least, ap length c.walk-walk.ensures)) in
+    let first = first_row n c.args.row c.walk-walk.result.now c.first-item.result walk c.walk-walk.ensures c.first-item.is in
+    let made : AreFlagsOf (length n.files.now) (c.args.row ∷ []) c.in_ok-flags.flags.items =
+    subst (λ (r : ℕ). AreFlagsOf (length n.files.now) (r ∷ []) c.in_ok-flags.flags.items) first (subst (λ (k : ℕ). AreFlagsOf k (c.first-item.result ∷ []) c.in_ok-flags.flags.items) c.len-count.ensures c.in_ok-flags.ensures) in
+    subst (AreFlagsOf (length n.files.now) (c.args.row ∷ [])) (sym c.as_slice-stale.ensures) made
+
+pub returns : goal.returns
+returns c = record {
+  none = λ none. absurd (omega (arith, c.in-len1-up.len_at_least, ap length c.walk-walk.ensures, ap length none));
+  meant = λ walk. c.in_ok-file.ensures;
+}
