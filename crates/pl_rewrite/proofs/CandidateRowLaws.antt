@@ -116,8 +116,8 @@ module _ (n : Numbered) (links : List Link) (causes : List (Option Skip)) (a : A
       record {
         few = omega (arith, long, rows.few, limit_is);
         firm = all_by_index IsItself (firms_of n row) (λ i r at.
-        let k = firm_index n (walk_of n row) (firms_of n row) i r zip at in
-        candidate_firm k.0 r (member_flag row i k.0 candidate k.1) k.2);
+            let k = firm_index n (walk_of n row) (firms_of n row) i r zip at in
+            candidate_firm k.0 r (member_flag row i k.0 candidate k.1) k.2);
         distinct = subst (IsDistinct bytes_eq) (ap names (sym (firms_named n row)) ∙ names_are (firms_of n row)) distinct;
       }
 

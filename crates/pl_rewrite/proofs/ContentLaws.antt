@@ -97,7 +97,7 @@ pub record IsProgramScene (f : Filling) (rs : List Firm) (gs own : List Meaning)
   pub seen : (i : ℕ) (e : Meaning) (m from n k : ℕ) (g : Meaning) → i < length own → (get_or own i e).word ≡ Copy m from n → k < n → from + k < 2 ^ 64 - 1 → gives_at (from + k) g ≡ true → p g ≡ true
 
 base_zero : (rs others : List Firm) (first : Firm) → rs ≡ first ∷ others → first.member.slot ≡ 0 → base_of (slots_of rs) 0 ≡ 0
-base_zero rs others first is zero = ap (λ (xs : List Firm). base_of (slots_of xs) 0) is ∙ zero
+base_zero rs others first is low = ap (λ (xs : List Firm). base_of (slots_of xs) 0) is ∙ low
 
 all_of : (rs others : List Firm) (first : Firm) (modules : List Module) (gs : List Meaning) (i : ℕ) (d : Reloc) (e : Meaning) → rs ≡ first ∷ others → meanings (objects_of rs) (slots_of rs) modules ≡ Ok gs → i < length first.object.relocations
     → meaning (objects_of rs) (slots_of rs) modules (row 0 (get_or first.object.relocations i d)) ≡ Ok (get_or gs i e)

@@ -46,7 +46,7 @@ module _ (w : Work) (row : ℕ) (l : WalkLinking) (work : IsWork w) (program : I
       let listed : conflicts (objects_of ss) (parts_of ss) (slots_of ss) modules ≡ Ok c.rows.items = ok_of (conflicts (objects_of ss) (parts_of ss) (slots_of ss) modules) c.rows.items (sym rows) in
       let fills : c.fills.items ≡ fills_of ss (memory_of ss has.given) = has.fills ∙ sym (fills_versions rs ss has.given are.0) in (
         form.1 ss are
-        ∙ (ap (λ (fs : List Fill). stored (form_of ss fs c.rows.items)) fills ∙ made_with ss modules has.given c.rows.items sources whole given listed),
+            ∙ (ap (λ (fs : List Fill). stored (form_of ss fs c.rows.items)) fills ∙ made_with ss modules has.given c.rows.items sources whole given listed),
         subst (HasSoMany made) (sym (ap rows_count rows)) form.0,
       )
 

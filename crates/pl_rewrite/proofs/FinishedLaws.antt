@@ -78,4 +78,3 @@ pub decided_is : (t : RunTable) (ts : List Taken) (a : Asked) (p : RowPlan) (os 
     → (planned (files_in ts) (names_of ts) a ≡ Ok (planned_of ts a p)) × AreDecided ts a p os
 decided_is t ts a p os same is plan made outcome =
     subst (λ (us : List Taken). (planned (files_in us) (names_of us) a ≡ Ok (planned_of us a p)) × AreDecided us a p os) same (table_decided t a p os is plan made outcome)
-

@@ -46,7 +46,9 @@ made_next all [] os i t o lt same at that = absurd (omega (arith, lt))
 made_next all (x ∷ ts) [] i t o lt same at that = absurd (omega (arith, same))
 made_next all (x ∷ ts) (y ∷ os) zero t o lt same at that =
     ap (λ (u : Taken). with_made all u.name (made_by u y)) (sym at) ∙ ap (λ (z : RowOutcome). with_made all t.name (made_by t z)) (sym that)
-made_next all (x ∷ ts) (y ∷ os) (suc i) t o lt same at that = made_next (with_made all x.name (made_by x y)) ts os i t o (omega (arith, lt)) (omega (arith, same)) at that
+made_next all (x ∷ ts) (y ∷ os) (suc i) t o lt same at that =
+    let more : suc i + 1 ≡ suc (i + 1) = omega arith in
+    ap (λ (k : ℕ). made_from all (take k (x ∷ ts)) (take k (y ∷ os))) more ∙ made_next (with_made all x.name (made_by x y)) ts os i t o (omega (arith, lt)) (omega (arith, same)) at that
 
 pub made_whole : (all : MadeFiles) (ts : List Taken) (os : List RowOutcome) (i : ℕ) → length ts ≤ i → length os ≡ length ts → made_from all (take i ts) (take i os) ≡ made_from all ts os
 made_whole all ts os i le same =
@@ -60,4 +62,3 @@ pub made_begin : (rows : List Change) (states : List ReportRow) (ts : List Taken
 unfolding made_from
 made_begin rows states ts os none also =
     ap (λ (x : List Change). make x states) none ∙ ap (λ (x : List ReportRow). make [] x) also
-

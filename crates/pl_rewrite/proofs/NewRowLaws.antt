@@ -30,7 +30,7 @@ form_again t parts o version has = record { firm = has.firm; even = has.even; li
 pub library_row : (n : Numbered) (row : ℕ) (x : Taken) (parts : NewLibrary) → slice_get n.files.now row ≡ Some x → (new : IsNew n row parts) → IsRowOf n row new.firm
 library_row n row x parts at new = row_of n row new.firm new.at
 
-pub same_file : (n : Numbered) (row : ℕ) (x : Taken) (parts : NewLibrary) → slice_get n.files.now row ≡ Some x → (new : IsNew n row parts) → (library_row n row x parts at new).taken ≡ x
+pub same_file : (n : Numbered) (row : ℕ) (x : Taken) (parts : NewLibrary) → (at : slice_get n.files.now row ≡ Some x) → (new : IsNew n row parts) → (library_row n row x parts at new).taken ≡ x
 same_file n row x parts at new = same_Some (library_row n row x parts at new).taken x (sym (library_row n row x parts at new).at ∙ at)
 
 pub library_object : (n : Numbered) (row : ℕ) (x : Taken) (parts : NewLibrary) → (at : slice_get n.files.now row ≡ Some x) → (new : IsNew n row parts) → object_by x.entry ≡ Some new.firm.object

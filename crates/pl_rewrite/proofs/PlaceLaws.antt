@@ -82,7 +82,9 @@ places_more [] gs i d e lt same = absurd (omega (arith, lt))
 places_more (r ∷ rs) [] i d e lt same = absurd (omega (arith, same))
 places_more (r ∷ rs) (g ∷ gs) zero d e lt same = append-nil (place_of r g)
 places_more (r ∷ rs) (g ∷ gs) (suc i) d e lt same =
-    ap (λ ps. place_of r g ++ ps) (places_more rs gs i d e (omega (arith, lt)) (omega (arith, same)))
+    let more : suc i + 1 ≡ suc (i + 1) = omega arith in
+    ap (λ (k : ℕ). given_places (take k (r ∷ rs)) (take k (g ∷ gs))) more
+    ∙ ap (λ ps. place_of r g ++ ps) (places_more rs gs i d e (omega (arith, lt)) (omega (arith, same)))
     ∙ sym (append_assoc (place_of r g) (given_places (take i rs) (take i gs)) (place_of (get_or rs i d) (get_or gs i e)))
 
 pub fills_begin : (f : Filling) (rs : List Reloc) (gs : List Meaning) (made : List form.Fill) → made ≡ [] → AllZip (IsFill f) (given_places (take 0 rs) (take 0 gs)) made

@@ -2,7 +2,7 @@
 use Rattle.std.proofs.Common.{◌≡◌, ℕ, zero, suc, ◌+◌, ◌-◌, ◌<◌, ◌≤◌, Bool, true, false, List, [], ◌∷◌, length, map, Option, Some, None, refl, sym, ap, subst, ◌∙◌, arith, inl, inr}
 use Rattle.std.specs.Prelude.{◌&&◌, ◌||◌, ◌==◌, not, slice_get, if◌then◌else◌}
 use Rattle.std.specs.List.{AllZip, list_any}
-use Rattle.std.proofs.lemmas.Bool.{and_parts, eq-eqb, false≢true, or_left, or_right}
+use Rattle.std.proofs.lemmas.Bool.{and_parts, cases_lt, eq-eqb, false≢true, or_left, or_right}
 use Rattle.std.proofs.lemmas.Option.{none-some, same_Some, slice_get_within}
 use Rattle.pl_cone.specs.Candidates as candidates
 use Rattle.pl_cone.specs.Table.{IsLinkKind, walked_by}
@@ -77,11 +77,16 @@ not_true false e = refl
 -- ---- what the walk of a stale program holds
 
 -- flags that are set stay set
-held_stays : (n : Numbered) (stale : List Bool) (size more row : ℕ) → is_held_before n stale size row ≡ true → is_held_before n stale (more + size) row ≡ true
-held_stays n stale size zero row held = held
-held_stays n stale size (suc more) row held =
-    sym (held_before_more n stale (more + size) row)
-    ∙ or_left (is_held_before n stale (more + size) row) (flagged (held_by n stale (more + size)) row) (held_stays n stale size more row held)
+held_up : (n : Numbered) (stale : List Bool) (all size row : ℕ) → size ≤ all → is_held_before n stale size row ≡ true → is_held_before n stale all row ≡ true
+held_up n stale zero size row le held =
+    let none : size ≡ 0 = omega (arith, le) in
+    subst (λ (k : ℕ). is_held_before n stale k row ≡ true) none held
+held_up n stale (suc all) size row le held = elim (cases_lt size (suc all)) [
+  | inl lt ↦ sym (held_before_more n stale all row) ∙ or_left (is_held_before n stale all row) (flagged (held_by n stale all) row) (held_up n stale all size row (omega (arith, lt)) held)
+  | inr past ↦
+      let same : size ≡ suc all = omega (arith, le, past) in
+      subst (λ (k : ℕ). is_held_before n stale k row ≡ true) same held
+]
 
 flagged_there : (rows : List ℕ) (m r : ℕ) → slice_get rows m ≡ Some r → flagged rows r ≡ true
 unfolding flagged
@@ -93,12 +98,7 @@ pub held_there : (n : Numbered) (stale : List Bool) (row m r : ℕ) → row < le
 held_there n stale row m r lt program at =
     let here : flagged (held_by n stale row) r ≡ true = ap (λ (rows : List ℕ). flagged rows r) (sym (held_walk n stale row program)) ∙ flagged_there (walk_of n row) m r at in
     let one : is_held_before n stale (suc row) r ≡ true = sym (held_before_more n stale row r) ∙ or_right (is_held_before n stale row r) (flagged (held_by n stale row) r) here in
-    up_to n stale (suc row) (length n.files.now) r (omega (arith, lt)) one
-  where
-    up_to : (n : Numbered) (stale : List Bool) (size all r : ℕ) → size ≤ all → is_held_before n stale size r ≡ true → is_held_before n stale all r ≡ true
-    up_to n stale size all r le held =
-        let same : (all - size) + size ≡ all = omega (arith, le) in
-        subst (λ (k : ℕ). is_held_before n stale k r ≡ true) same (held_stays n stale size (all - size) r held)
+    held_up n stale (length n.files.now) (suc row) r (omega (arith, lt)) one
 
 -- ---- what is asked of a row
 
@@ -126,7 +126,7 @@ asked_for n asked stale made held count = record { made = ap length made ∙ cou
 pub zip_there : {X Y : Type 0} (R : X → Y → Type 0) (xs : List X) (ys : List Y) (i : ℕ) (x : X) → AllZip R xs ys → slice_get xs i ≡ Some x → (y : Y) × (slice_get ys i ≡ Some y) × R x y
 zip_there R [] ys i x zip at = absurd (none-some x at)
 zip_there R (z ∷ xs) [] i x zip at = absurd zip
-zip_there R (z ∷ xs) (y ∷ ys) zero x zip at = (y, refl, subst (λ (u : X). R u y) (same_Some z x at) zip.0)
+zip_there {X = X} R (z ∷ xs) (y ∷ ys) zero x zip at = (y, refl, subst (λ (u : X). R u y) (same_Some z x at) zip.0)
 zip_there R (z ∷ xs) (y ∷ ys) (suc i) x zip at = zip_there R xs ys i x zip.1 at
 
 -- ---- a stale program

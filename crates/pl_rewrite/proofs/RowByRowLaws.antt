@@ -7,13 +7,13 @@ use Rattle.pl_cone.proofs.NeedLaws.{slice_get_push}
 
 -- what is so of each row is so after one more
 pub each_pushed : {X : Type 0} (P : ℕ → X → Type 0) (xs ys : List X) (x : X) → ys ≡ xs ++ x ∷ [] → P (length xs) x → ((i : ℕ) (y : X) → slice_get xs i ≡ Some y → P i y) → (i : ℕ) (y : X) → slice_get ys i ≡ Some y → P i y
-each_pushed P xs ys x is one each i y at = elim (slice_get_push xs x y i (ap (λ (zs : List X). slice_get zs i) (sym is) ∙ at)) [
+each_pushed {X = X} P xs ys x is one each i y at = elim (slice_get_push xs x y i (ap (λ (zs : List X). slice_get zs i) (sym is) ∙ at)) [
   | inl front ↦ each i y front
   | inr last ↦ subst (λ (z : X). P i z) last.1 (subst (λ (k : ℕ). P k x) (sym last.0) one)
 ]
 
 pub each_nothing : {X : Type 0} (P : ℕ → X → Type 0) (xs : List X) → xs ≡ [] → (i : ℕ) (y : X) → slice_get xs i ≡ Some y → P i y
-each_nothing P xs none i y at = absurd (none-some y (ap (λ (zs : List X). slice_get zs i) (sym none) ∙ at))
+each_nothing {X = X} P xs none i y at = absurd (none-some y (ap (λ (zs : List X). slice_get zs i) (sym none) ∙ at))
 
 -- ---- the next of items
 
@@ -30,7 +30,7 @@ no_cons x rest e = cc
 drop_at : {X : Type 0} (xs : List X) (i : ℕ) (x : X) (rest : List X) → drop i xs ≡ x ∷ rest → (slice_get xs i ≡ Some x) × (rest ≡ drop (suc i) xs)
 drop_at [] zero x rest e = absurd (no_cons x rest e)
 drop_at [] (suc i) x rest e = absurd (no_cons x rest e)
-drop_at (y ∷ xs) zero x rest e =
+drop_at {X = X} (y ∷ xs) zero x rest e =
     let head : y ≡ x = cc in
     let tail : xs ≡ rest = cc in
     (ap (λ (z : X). Some z) head, sym tail)

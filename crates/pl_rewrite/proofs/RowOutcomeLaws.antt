@@ -66,7 +66,6 @@ use Rattle.pl_rewrite.proofs.StaleRowLaws.{column, stale_candidate, stale_flag}
 use Rattle.pl_rewrite.proofs.WholeLaws.{library_made}
 use Rattle.pl_rewrite.proofs.NewRowLaws.{library_firm_is, library_may, library_object, made_firm}
 
-
 entry_of : (region : Range) (ts : List Taken) (x : Taken) → IsRow region ts x → x.entry ≡ entry_in x.bytes
 unfolding taken_of
 entry_of region ts x known = ap (λ (t : Taken). t.entry) known.taken.is

@@ -61,7 +61,7 @@ use Rattle.pl_rewrite.proofs.VerifyLaws.{original_read}
 
 test_at : {X : Type 0} (q : X → Bool) (xs : List X) (i : ℕ) (x : X) → list_all q xs ≡ true → slice_get xs i ≡ Some x → q x ≡ true
 test_at q [] i x all at = absurd (none-some x at)
-test_at q (y ∷ xs) zero x all at = subst (λ (z : X). q z ≡ true) (same_Some y x at) (and_parts (q y) (list_all q xs) all).0
+test_at {X = X} q (y ∷ xs) zero x all at = subst (λ (z : X). q z ≡ true) (same_Some y x at) (and_parts (q y) (list_all q xs) all).0
 test_at q (y ∷ xs) (suc i) x all at = test_at q xs i x (and_parts (q y) (list_all q xs) all).1 at
 
 -- the first that fails
@@ -154,8 +154,8 @@ marked_sources n row numbered h is all =
     record {
       few = omega (arith, long, rows.few, limit_is);
       firm = all_by_index IsItself (firms_of n row) (λ i r at.
-      let k = firm_index n (walk_of n row) (firms_of n row) i r zip at in
-      marked_firm n numbered.taken.0 k.0 r numbered.taken.1 k.2 (test_at (is_marked_at n.files.now) (walk_of n row) i k.0 all k.1));
+          let k = firm_index n (walk_of n row) (firms_of n row) i r zip at in
+          marked_firm n numbered.taken.0 k.0 r numbered.taken.1 k.2 (test_at (is_marked_at n.files.now) (walk_of n row) i k.0 all k.1));
       distinct = subst (IsDistinct bytes_eq) (ap names (sym (firms_named n row)) ∙ names_are (firms_of n row)) distinct;
     }
 
@@ -253,7 +253,7 @@ one_bad (x ∷ ms) (r ∷ rs) (suc i) m zip at bad = ap (λ (b : Bool). has_numb
 not_set : (rs : List Firm) → list_all has_numbers rs ≡ false → are_set rs ≡ false
 unfolding are_set
 not_set [] bad = refl
-not_set (r ∷ rs) bad = and_left (list_all has_numbers (r ∷ rs)) _ bad
+not_set (r ∷ rs) bad = and_left _ _ (and_left (list_all has_numbers (r ∷ rs)) _ bad)
 
 -- so no file is meant
 no_version : (ms : List Member) (i : ℕ) (m : Member) → slice_get ms i ≡ Some m → is_version m.version ≡ false → prelinked ms ≡ None

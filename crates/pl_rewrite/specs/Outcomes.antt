@@ -23,7 +23,7 @@ use Rattle.pl_rewrite.specs.Libraries.{storable_library}
 use Rattle.pl_rewrite.specs.Libraries as libraries
 use Rattle.pl_rewrite.specs.Reports as reports
 use Rattle.pl_rewrite.specs.Rows.{IsFileMeant, IsWalkRow, is_library_row, walk_of}
-use Rattle.pl_rewrite.specs.RowWords.{is_set, own_words_at}
+use Rattle.pl_rewrite.specs.RowWords.{AreRowWords, is_set, own_words_at}
 use Rattle.pl_rewrite.specs.Contents.{IsNewProgram, IsProgramRow}
 use Rattle.pl_rewrite.specs.declared.finishing.MadeFiles.{MadeFiles}
 use Rattle.pl_rewrite.specs.declared.finishing.Made.{Made}
@@ -35,6 +35,7 @@ use Rattle.pl_rewrite.specs.declared.outcome.RowOutcome.TheVariants as outcomes
 use Rattle.pl_rewrite.specs.declared.program.Work.{Work}
 use Rattle.pl_rewrite.specs.declared.report.RowState.{RowState}
 use Rattle.pl_rewrite.specs.declared.report.RowState.TheVariants as states
+use Rattle.pl_rewrite.specs.declared.row_words.Needed.{Needed}
 use Rattle.pl_rewrite.specs.declared.row_words.RowWords.{RowWords}
 
 -- ---- what a run makes of a name
@@ -208,6 +209,13 @@ pub record AreProgramsMade (n : Numbered) (stale : List Bool) (all : List (Optio
 pub record AreMade (n : Numbered) (stale : List Bool) (all : List (Option RowOutcome)) : Type 0 where
   pub count : length all ≡ length stale
   pub each : (row : ℕ) (o : Option RowOutcome) → slice_get all row ≡ Some o → IsIf (is_stale stale row) (IsMadeAt n row) o
+
+-- what is asked of the rows of stale files, and of the members of stale programs' walks, is told
+pub record AreToldRows (n : Numbered) (stale : List Bool) (all : List RowWords) : Type 0 where
+  pub asked : Needed
+  pub made : asked.made.now ≡ stale
+  pub held : AreHeldFlags n stale asked.held.now
+  pub told : AreRowWords n asked all
 
 -- each stale program can be made
 abbrev pub AreProgramRows : Work → List Bool → Type 0

@@ -20,12 +20,12 @@ own_words_at n row = own_words (objects_of (firms_of n row)) (slots_of (firms_of
 abbrev pub FindsRow : Numbered → ℕ → List (Option Found) → Type 0
 FindsRow n row found = FindAll (objects_of (firms_of n row)) found
 
-abbrev pub is_asked : List Bool → ℕ → Bool
-is_asked flags row = is_set (slice_get flags row)
-
 abbrev pub is_set : Option Bool → Bool
 is_set None = false
 is_set (Some b) = b
+
+abbrev pub is_asked : List Bool → ℕ → Bool
+is_asked flags row = is_set (slice_get flags row)
 
 abbrev pub is_needed : Needed → ℕ → Bool
 is_needed asked row = is_asked asked.made.now row || is_asked asked.held.now row

@@ -46,12 +46,7 @@ pub struct MadeFiles {
 }
 
 /// The row that gives a name other bytes than its old ones; None where they are the same.
-fn put(
-    alloc: Global,
-    name: &str,
-    old: &[u8],
-    bytes: Vec<u8>,
-) -> Result<Option<Change>, AllocError>
+fn put(alloc: Global, name: &str, old: &[u8], bytes: Vec<u8>) -> Result<Option<Change>, AllocError>
     ensures { IfOk result (λ row. row
         ≡ changes.put (Some old.now) name.now (Some bytes.items)) }
 {

@@ -51,10 +51,9 @@ loop-taken-preserved c =
           let n = next_is MayBe ts os i t o rest c.requires.may turn.0 turn.1 (sym c.loop-taken.invariant.1 ∙ w.in-Some-next.ensures.cases.0) in
           let count : into_iter_len c.next-in-loop-taken.new.self + (i + 1) ≡ length os = omega (arith, w.in-Some-next.ensures.cases.1, c.loop-taken.invariant.2) in
           let next = made_next _ ts os i t o turn.0 (AllZip-long MayBe ts os c.requires.may) turn.1 n.that in
-          rw (length_push c.loop-taken.yielded t)
-          (
+          rw (length_push c.loop-taken.yielded t) (
             w.all-is
-            ∙ (w.in_ok-all.ensures ∙ (ap (λ (m : Made). with_made c.loop-taken.all t.name m) w.in_ok-made.ensures ∙ (ap (λ (x : MadeFiles). with_made x t.name (made_by t o)) c.loop-taken.invariant.0 ∙ sym next))),
+                ∙ (w.in_ok-all.ensures ∙ (ap (λ (m : Made). with_made c.loop-taken.all t.name m) w.in_ok-made.ensures ∙ (ap (λ (x : MadeFiles). with_made x t.name (made_by t o)) c.loop-taken.invariant.0 ∙ sym next))),
             more_left os rest i n.left,
             count,
           )

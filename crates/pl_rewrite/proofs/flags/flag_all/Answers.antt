@@ -1,4 +1,4 @@
-use Rattle.std.proofs.Common.{arith}
+use Rattle.std.proofs.Common.{◌<◌, ℕ, subst, sym}
 use Rattle.pl_rewrite.proofs.FlagLaws.{flags_begin, flags_done, flags_more}
 use Rattle.pl_rewrite.proofs.flags.flag_all.Goals as goal
 
@@ -6,9 +6,7 @@ pub loop-row-init : goal.loop-row-init
 loop-row-init c = flags_begin c.args.flags.now
 
 pub bounds-flags-row : goal.bounds-flags-row
-bounds-flags-row c =
-    let below = c.requires c.loop-row.row-index _ c.loop-row-test.true in
-    omega (arith, below, c.loop-row.invariant.count)
+bounds-flags-row c = subst (λ (k : ℕ). _ < k) (sym c.loop-row.invariant.count) (c.requires c.loop-row.row-index _ c.loop-row-test.true)
 
 pub loop-row-preserved : goal.loop-row-preserved
 loop-row-preserved c = flags_more c.args.rows.now c.loop-row.row-index _ c.args.flags.now c.loop-row.flags c.loop-row-test.true c.loop-row.invariant

@@ -61,9 +61,9 @@ returns-in-Ok c =
     let f = program_row n c.args.row t o c.requires.program.walk c.index-files-row.is c.in-Some.ensures in (
       c.len.ensures ∙ ap length c.as_slice-rows.ensures,
       λ ss are.
-      rw (← c.as_slice-fills.ensures, ← c.as_slice-rows.ensures)
-      (form_made n c.args.row t o c.as_slice-fills.result.now c.as_slice-rows.result.now c.as_slice-listed.result.now c.original-original.result.now c.args.version c.in-Ok.file.items c.trimmed.result.items ss f c.original-original.ensures (c.as_slice-listed.ensures ∙ c.in_ok-list.ensures)
-      c.in-Ok.ensures c.trimmed.ensures are),
+          rw (← c.as_slice-fills.ensures, ← c.as_slice-rows.ensures)
+          (form_made n c.args.row t o c.as_slice-fills.result.now c.as_slice-rows.result.now c.as_slice-listed.result.now c.original-original.result.now c.args.version c.in-Ok.file.items c.trimmed.result.items ss f c.original-original.ensures (c.as_slice-listed.ensures ∙ c.in_ok-list.ensures)
+          c.in-Ok.ensures c.trimmed.ensures are),
     )
 
 pub returns-in-Err-TooLarge : goal.returns-in-Err-TooLarge
@@ -74,7 +74,7 @@ returns-in-Err-TooLarge c =
     let f = program_row n c.args.row t o c.requires.program.walk c.index-files-row.is c.in-Some.ensures in (
       tt,
       λ ss are.
-      rw (← c.as_slice-fills.ensures, ← c.as_slice-rows.ensures)
-      (form_large n c.args.row t o c.as_slice-fills.result.now c.as_slice-rows.result.now c.as_slice-listed.result.now c.original-original.result.now c.args.version TooLarge ss f c.original-original.ensures (c.as_slice-listed.ensures ∙ c.in_ok-list.ensures)
-      (rw c.in-Err-TooLarge.field-0-is at c.in-Err-TooLarge.ensures) are),
+          rw (← c.as_slice-fills.ensures, ← c.as_slice-rows.ensures)
+          (form_large n c.args.row t o c.as_slice-fills.result.now c.as_slice-rows.result.now c.as_slice-listed.result.now c.original-original.result.now c.args.version TooLarge ss f c.original-original.ensures (c.as_slice-listed.ensures ∙ c.in_ok-list.ensures)
+          (rw c.in-Err-TooLarge.field-0-is at c.in-Err-TooLarge.ensures) are),
     )
