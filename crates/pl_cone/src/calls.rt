@@ -47,7 +47,7 @@ pub fn row_of(files: &[Taken], name: &str) -> Option<usize>
 /// The cause of a row, taken out of the table.
 fn cause_at(table: RunTable<'_>, row: usize) -> Result<(), Skip>
     requires { spec.IsRowNumber table row }
-    ensures { result ≡ spec.caused_at table row }
+    ensures { result ≡ spec.caused_at table.entry row }
 {
     let RunTable { causes, .. } = table;
     let mut causes = causes.into_vec();

@@ -3,8 +3,8 @@ pub mod PieceLaws
 pub mod OrderLaws
 pub mod OwnLaws
 pub mod HeldLaws
-pub mod AmongLaws
-pub mod RemainingLaws
+pub mod MeaningLaws
+pub mod HeldWordLaws
 pub mod ConflictLaws
 pub mod CompleteLaws
 pub mod MemberLaws

@@ -6,6 +6,7 @@ use Rattle.pl_form.specs.Library.{IsEven, IsFirmLibrary, IsShortList, library_fo
 use Rattle.pl_form.specs.Words.{listed, word_at}
 use Rattle.pl_form.specs.declared.version.Version.{Version}
 use Rattle.pl_image.specs.Loads.{IsPlaced, loaded_at}
+use Rattle.pl_image.specs.declared.loaded_object.LoadedObject.{LoadedObject}
 use Rattle.pl_lists.specs.declared.list_row.ListRow.{ListRow}
 use Rattle.pl_object.specs.declared.object.Object.{Object}
 use Rattle.pl_object.specs.declared.reloc.Reloc.{Reloc}
@@ -24,6 +25,10 @@ pub record IsFormWith (original : List ℕ) (o : Object) (slot : ℕ) (words : L
 -- the eight bytes that a file holds at the place of a relocation, where it is loaded at an address
 abbrev pub held_at : ℕ → List ℕ → Object → Reloc → List ℕ
 held_at place file o r = held (loaded_at place file o ∷ []) 0 (plus place r.address)
+
+-- the first object of files holds a word at the place of a relocation, where it is loaded at a place
+abbrev pub HoldsAt : List LoadedObject → ℕ → Reloc → ℕ → Type 0
+HoldsAt files place r word = held files 0 (plus place r.address) ≡ bytes64 word
 
 -- the own word of a relocation; or, where it has none, the word that the original holds
 abbrev pub IsHeldWord : List ℕ → Object → Reloc → Option ℕ → ℕ → Type 0

@@ -1,19 +1,29 @@
 // The own words of a library.
 ghost use Rattle.std.specs.Prelude.{◌≡◌, ◌<◌, length, map, IfOk};
 ghost use Rattle.std.specs.List.{All, AllZip};
-ghost use Rattle.pl_scope.specs.Scope.{objects, IsSymbol};
+ghost use Rattle.pl_scope.specs.Scope.{objects, IsReference, IsSymbol};
 ghost use Rattle.pl_value.specs.Definers.{IsSought};
 ghost use Rattle.pl_value.specs.Values.{reference};
 ghost use Rattle.pl_conflict.specs.Own as spec;
 
-use crate::among::sought;
 use pl_base::Rows;
 use pl_elf::constants::{R_X86_64_DTPMOD64, R_X86_64_RELATIVE, R_X86_64_TPOFF64};
 use pl_io::NoMemory;
 use pl_object::Reloc;
-use pl_scope::{Found, Scope};
+use pl_scope::{Found, Reference, Scope, find};
 use pl_value::{LinkFault, Places, Word, reference_of, word_of};
 use std::alloc::{AllocError, Global};
+
+/// What the symbol of a reference finds. Symbol 0 is no reference.
+fn sought(scope: &Scope<'_>, reference: Reference) -> Option<Found>
+    requires { IsReference scope.now reference }
+    ensures { IsSought (objects scope.now) reference result }
+{
+    if reference.symbol == 0 {
+        return None;
+    }
+    find(scope, reference)
+}
 
 /// Whether a kind is one that a program's start alone gives.
 #[tactic(auto, unfolding(crate::specs::Own::is_of_start))]

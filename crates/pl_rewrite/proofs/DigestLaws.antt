@@ -9,7 +9,7 @@ use Rattle.std.proofs.lemmas.Slice.Zip.{AllZip-long}
 use Rattle.pl_base.specs.Bytes.{word32}
 use Rattle.pl_cone.specs.Taken.{HasItsEntry, taken_of}
 use Rattle.pl_cone.specs.declared.taken.Taken.{Taken}
-use Rattle.pl_conflict.proofs.RemainingLaws.{zip_more}
+use Rattle.pl_conflict.proofs.HeldWordLaws.{zip_more}
 use Rattle.pl_conflict.specs.Prelinked as firm
 use Rattle.pl_conflict.specs.Prelinked.{Firm}
 use Rattle.pl_elf.specs.Kinds.{is_library}

@@ -7,7 +7,7 @@ use Rattle.std.proofs.lemmas.List.{append-nil, take_all, take_more}
 use Rattle.std.proofs.lemmas.List.Elements.{filter-append}
 use Rattle.pl_base.proofs.AnswerLaws.{ok_same}
 use Rattle.pl_base.proofs.EachLaws.{length-each}
-use Rattle.pl_conflict.proofs.AmongLaws.{start_is}
+use Rattle.pl_conflict.proofs.MeaningLaws.{start_is}
 use Rattle.pl_cone.specs.Links.{objects_of}
 use Rattle.pl_cone.specs.declared.values.WalkLinking.{WalkLinking}
 use Rattle.pl_elf.specs.declared.range.Range.{Range}

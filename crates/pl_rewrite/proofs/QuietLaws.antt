@@ -11,7 +11,7 @@ use Rattle.pl_base.specs.Memory.{Memory, layered, read}
 use Rattle.pl_base.specs.Sums.{plus}
 use Rattle.pl_base.proofs.AnswerLaws.{ok_same}
 use Rattle.pl_cone.specs.OneWord.{GivesOneWordBy, is_of_address, is_without_symbol}
-use Rattle.pl_conflict.specs.Among.{GivesQuiet, HoldsWord}
+use Rattle.pl_conflict.specs.Quiet.{GivesQuiet, HoldsWord}
 use Rattle.pl_conflict.specs.Conflicts.{held, pieces_in, row_of}
 use Rattle.pl_conflict.specs.Held.{IsFormWith, IsHeldWord}
 use Rattle.pl_conflict.specs.Own.{is_of_start, lacks_definer, own_word, own_words, put_in}

@@ -12,10 +12,10 @@ use Rattle.pl_base.specs.Bytes.{bytes64}
 use Rattle.pl_base.specs.Each.{each, with_front}
 use Rattle.pl_base.proofs.AnswerLaws.{ok_same}
 use Rattle.pl_base.proofs.EachLaws.{front_nothing}
-use Rattle.pl_conflict.specs.Among.{GivesQuiet, IsQuiet}
+use Rattle.pl_conflict.specs.Quiet.{GivesQuiet, IsQuiet}
 use Rattle.pl_conflict.specs.Between.{HoldsBetween}
 use Rattle.pl_conflict.specs.Conflicts.{held, row_of, rows_of}
-use Rattle.pl_conflict.proofs.AmongLaws.{front_err, member_is, some_of}
+use Rattle.pl_conflict.proofs.MeaningLaws.{front_err, member_is, some_of}
 use Rattle.pl_conflict.proofs.HeldLaws.{rows_both, rows_one}
 use Rattle.pl_cone.specs.Links.{objects_of}
 use Rattle.pl_cone.specs.declared.values.WalkLinking.{WalkLinking}

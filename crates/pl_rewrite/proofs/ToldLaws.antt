@@ -11,12 +11,12 @@ use Rattle.pl_base.proofs.AnswerLaws.{ok_same}
 use Rattle.pl_cone.specs.OneWord.{GivesOneWordBy}
 use Rattle.pl_cone.specs.Links.{objects_of}
 use Rattle.pl_cone.specs.declared.values.WalkLinking.{WalkLinking}
-use Rattle.pl_conflict.specs.Among.{HoldsWord}
+use Rattle.pl_conflict.specs.Quiet.{HoldsWord}
 use Rattle.pl_conflict.specs.Between.{HoldsBetween}
 use Rattle.pl_conflict.specs.Conflicts.{held}
 use Rattle.pl_conflict.specs.Held.{IsHeldWord}
 use Rattle.pl_conflict.specs.Own.{own_words}
-use Rattle.pl_conflict.proofs.AmongLaws.{start_is}
+use Rattle.pl_conflict.proofs.MeaningLaws.{start_is}
 use Rattle.pl_conflict.proofs.FormWordLaws.{forms_hold}
 use Rattle.pl_form.specs.Words.{word_at}
 use Rattle.pl_image.specs.Loads.{loaded_at}

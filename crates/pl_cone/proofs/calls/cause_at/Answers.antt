@@ -16,5 +16,5 @@ remove-requires c = let size = ap length c.into_vec-causes.ensures in omega (ari
 pub returns-in-None : goal.returns-in-None
 returns-in-None c = taken_out c.into_vec-causes.result.items c.args.table.causes c.args.row None c.into_vec-causes.ensures c.requires c.in-None.ensures.value
 
-pub returns-in-Some : goal.returns-in-Some
-returns-in-Some c = taken_out c.into_vec-causes.result.items c.args.table.causes c.args.row (Some c.in-Some.skip) c.into_vec-causes.ensures c.requires c.in-Some.ensures.value
+pub returns : goal.returns
+returns c = taken_out c.into_vec-causes.result.items c.args.table.causes c.args.row (Some c.in-Some.skip) c.into_vec-causes.ensures c.requires c.in-Some.ensures.value

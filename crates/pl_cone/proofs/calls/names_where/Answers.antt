@@ -37,7 +37,7 @@ loop-row-preserved c =
     elim c.if-stale-row.branch [
       | then-stale-row+in_ok-copy_of+in_ok-push w ↦
           rw w.names-is (flagged c.args.files.now c.args.stale.now c.loop-row.row w.index-files-row.result c.loop-row.names _ _ lt in_flags w.index-files-row.is w.if-stale-row.true
-          (w.in_ok-push.ensures.ok ∙ ap (λ (n : List ℕ). c.loop-row.names ++ n ∷ []) (w.in_ok-copy_of.ensures ∙ w.as_str.ensures)) c.loop-row.invariant)
+          (w.in_ok-push.ensures.ok ∙ (ap (λ (n : List ℕ). c.loop-row.names ++ n ∷ []) (w.in_ok-copy_of.ensures ∙ w.as_str.ensures) ∙ ap (λ (t : Taken). c.loop-row.names ++ t.name ∷ []) (sym w.index-files-row.is))) c.loop-row.invariant)
       | else-stale-row w ↦ elim (slice_get_cases c.args.files.now c.loop-row.row).1 [
         | inl p ↦ rw w.names-is (passed c.args.files.now c.args.stale.now c.loop-row.row p.0 c.loop-row.names _ lt in_flags (sym p.3) w.if-stale-row.false c.loop-row.invariant)
         | inr none ↦ absurd (omega (arith, lt, none.0))

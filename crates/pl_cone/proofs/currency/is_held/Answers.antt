@@ -1,4 +1,5 @@
 use Rattle.std.proofs.Common.{◌≡◌, ℕ, ◌<◌, Bool, List, [], ◌∷◌, length, drop, get_or, Option, refl, sym, ap, ◌∙◌, arith}
+use Rattle.std.proofs.lemmas.Bool.{eqb-false}
 use Rattle.std.proofs.lemmas.Option.{slice_get_read}
 use Rattle.pl_cone.specs.Currency.{holds, holds_at, is_held}
 use Rattle.pl_cone.specs.declared.taken.Taken.{Taken}
@@ -14,7 +15,7 @@ holds-requires c = rw c.others.ensures (others_are c.args.files.now c.args.walk.
 
 pub returns : goal.returns
 returns c =
-    let some : 0 < length c.args.walk.now = omega arith in
+    let some : 0 < length c.args.walk.now = omega (arith, eqb-false (length c.args.walk.now) 0 (sym c.is_empty.ensures ∙ c.if-is_empty.false)) in
     c.holds.ensures
     ∙ (ap (λ (rows : List ℕ). holds c.args.files.now c.index-files-walk.result rows c.args.place) c.others.ensures
     ∙ first c.args.files.now c.args.walk.now c.index-files-walk.result c.args.place some (c.requires.within 0 0 some) c.index-files-walk.is)

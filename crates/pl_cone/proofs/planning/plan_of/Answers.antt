@@ -4,7 +4,7 @@ use Rattle.pl_cone.specs.Currency.{stale_rows, stamps_of}
 use Rattle.pl_cone.proofs.PlanLaws.{all_planned, places_long, rows_planned, slots_stop, stale_long, stamp_stop}
 use Rattle.pl_cone.proofs.planning.plan_of.Goals as goal
 
-pub slots_of-requires : goal.slots_of-placed-requires
+pub slots_of-requires : goal.slots_of-requires
 slots_of-requires c = (c.args.asked.now.region, c.requires)
 
 pub stale_rows-requires-clause-table : goal.stale_rows-requires-clause-table

@@ -31,15 +31,15 @@ apart_slots-requires c = rw (c.as_slice-wants.ensures, c.requires.wanting.wants)
 pub shared_slots-requires : goal.shared_slots-requires
 shared_slots-requires c = rw (c.as_slice-wants.ensures, c.requires.wanting.wants) (wants_aligned c.requires.table.0 c.args.table.now c.requires.table.1)
 
-pub returns-then-not-share-clause-value : goal.returns-then-not-share-clause-value
-returns-then-not-share-clause-value c =
+pub returns-then-not-asked-clause-value : goal.returns-then-not-asked-clause-value
+returns-then-not-asked-clause-value c =
     let told : c.as_slice-wants.result.now ≡ table_wants c.args.table.now = c.as_slice-wants.ensures ∙ c.requires.wanting.wants in
     let same : apart_by c.args.asked.now c.as_slice-wants.result.now ≡ table_slots c.args.table.now c.args.asked.now =
-    ap (apart_by c.args.asked.now) told ∙ sym (ap (chosen c.args.asked.now (table_wants c.args.table.now) (table_walks c.args.table.now)) c.if-not-share.true) in
+    ap (apart_by c.args.asked.now) told ∙ sym (ap (chosen c.args.asked.now (table_wants c.args.table.now) (table_walks c.args.table.now)) c.if-not-asked.true) in
     subst (λ (r : Result (List Slot) PlanningFault). Answers is_memory c.apart_slots.result r) same c.apart_slots.ensures.value
 
-pub returns-then-not-share-clause-names : goal.returns-then-not-share-clause-names
-returns-then-not-share-clause-names c =
+pub returns-then-not-asked-clause-names : goal.returns-then-not-asked-clause-names
+returns-then-not-asked-clause-names c =
     let told : c.as_slice-wants.result.now ≡ table_wants c.args.table.now = c.as_slice-wants.ensures ∙ c.requires.wanting.wants in
     IfOk-weaker c.apart_slots.result _ _ (λ slots have. subst (λ (ws : List Want). HaveWantedNames ws slots) told (have (subst (λ (ws : List Want). All (λ w. 0 < w.span) ws) (sym told) (wants_spanned c.requires.table.0 c.args.table.now c.requires.table.1)))) c.apart_slots.ensures.names
 
@@ -49,7 +49,7 @@ returns-clause-value c =
     let same : shared_by c.args.asked.now c.as_slice-wants.result.now c.in_ok-walks.walks.rows ≡ table_slots c.args.table.now c.args.asked.now =
     ap (λ (ws : List Want). shared_by c.args.asked.now ws c.in_ok-walks.walks.rows) told
     ∙ (ap (shared_by c.args.asked.now (table_wants c.args.table.now)) c.in_ok-walks.ensures
-    ∙ sym (ap (chosen c.args.asked.now (table_wants c.args.table.now) (table_walks c.args.table.now)) c.if-not-share.false)) in
+    ∙ sym (ap (chosen c.args.asked.now (table_wants c.args.table.now) (table_walks c.args.table.now)) c.if-not-asked.false)) in
     subst (λ (r : Result (List Slot) PlanningFault). Answers is_memory c.shared_slots.result r) same c.shared_slots.ensures.value
 
 pub returns-clause-names : goal.returns-clause-names

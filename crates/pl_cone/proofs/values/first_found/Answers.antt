@@ -1,10 +1,11 @@
-use Rattle.std.proofs.Common.{◌≡◌, ◌<◌, ◌≤◌, List, length, map, take, sym, ap, subst, ◌∙◌, arith}
+use Rattle.std.proofs.Common.{◌≡◌, ◌<◌, ◌≤◌, List, Option, length, map, take, sym, ap, subst, ◌∙◌, arith}
 use Rattle.std.specs.List.{All, AllZip}
 use Rattle.std.specs.Prelude.{slice_get}
 use Rattle.std.proofs.lemmas.List.{take_all}
 use Rattle.std.proofs.lemmas.Result.{err_from_is_err_and}
 use Rattle.pl_object.specs.declared.reloc.Reloc.{Reloc}
 use Rattle.pl_scope.specs.Scope.{IsSymbol}
+use Rattle.pl_scope.specs.declared.found.Found.{Found}
 use Rattle.pl_value.specs.Definers.{IsSought}
 use Rattle.pl_value.specs.Meanings.{row}
 use Rattle.pl_value.specs.Values.{reference, relocations_in}
@@ -35,7 +36,7 @@ loop-reloc-preserved c = record {
 pub returns : goal.returns
 returns c =
     let same = ap relocations_in c.object.ensures.object ∙ sym c.as_slice-relocs.ensures in
-    let r = λ (q : Reloc) f. IsSought (objects_of c.args.linking.now) (reference 0 q) f in (
+    let r = λ (q : Reloc) (f : Option Found). IsSought (objects_of c.args.linking.now) (reference 0 q) f in (
       subst (λ (rs : List Reloc). AllZip r rs c.loop-reloc.all) (take_all c.loop-reloc.reloc-index c.as_slice-relocs.result.now c.loop-reloc-test.false ∙ sym same) c.loop-reloc.invariant.found,
       ap (λ (rs : List Reloc). rows_have_in c.args.linking.now (map (row 0) rs)) same ∙ all_rows (meaning_in c.args.linking.now) 0 c.as_slice-relocs.result.now c.loop-reloc.reloc-index _ c.loop-reloc-test.false c.loop-reloc.invariant.values,
     )

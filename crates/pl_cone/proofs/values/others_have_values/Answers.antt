@@ -1,9 +1,10 @@
-use Rattle.std.proofs.Common.{◌≡◌, ◌<◌, ◌≤◌, ℕ, length, get_or, refl, sym, ap, arith, ◌∙◌}
+use Rattle.std.proofs.Common.{◌≡◌, ◌<◌, ◌≤◌, ℕ, length, get_or, refl, sym, ap, subst, arith, ◌∙◌}
 use Rattle.std.proofs.lemmas.Option.{slice_get_read, slice_get-get_or}
 use Rattle.std.proofs.lemmas.Result.{err_from_is_err_and}
 use Rattle.pl_scope.proofs.MemberLaws.{length_objects}
 use Rattle.pl_value.proofs.LinkableLaws.{all_symbols}
-use Rattle.pl_cone.specs.Links.{meaning_in, objects_of}
+use Rattle.pl_cone.specs.Links.{TellsOf, meaning_in, objects_of}
+use Rattle.pl_cone.specs.declared.link.Link.{Link}
 use Rattle.pl_cone.proofs.ValueLaws.{member_past, member_stops, all_members}
 use Rattle.pl_cone.proofs.values.others_have_values.Goals as goal
 
@@ -18,7 +19,9 @@ member_has_values-requires-clause-remaining c =
     let lt : m < length c.args.walk.now = omega (arith, c.requires.walk.each, c.count-member-end.ensures.count) in
     let r : ℕ = get_or c.args.walk.now m 0 in
     let inside : r < length c.args.links.now = c.requires.walk.within m 0 lt in
-    rw (c.as_slice-relocs.ensures, c.as_slice-remaining.ensures) (c.requires.links m r c.object.result.now c.index-links-walk.result some c.object.ensures.object (slice_get-get_or c.args.walk.now m 0 lt) (slice_get_read c.args.links.now (length c.args.links.now) r c.index-links-walk.result refl inside c.index-links-walk.is))
+    let told : TellsOf c.args.linking.now m c.object.result.now.relocations c.index-links-walk.result.remaining =
+    c.requires.links m r c.object.result.now c.index-links-walk.result some c.object.ensures.object (slice_get-get_or c.args.walk.now m 0 lt) (slice_get_read c.args.links.now (length c.args.links.now) r c.index-links-walk.result refl inside c.index-links-walk.is) in
+    rw (c.as_slice-relocs.ensures, c.as_slice-remaining.ensures) (subst (λ (l : Link). TellsOf c.args.linking.now m c.object.result.now.relocations l.remaining) c.index-links-walk.is told)
 
 pub returns-in_err-member_has_values : goal.returns-in_err-member_has_values
 returns-in_err-member_has_values c =

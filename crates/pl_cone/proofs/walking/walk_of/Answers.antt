@@ -41,5 +41,5 @@ returns-clause-walking c = ready_after c.args.needs.now (c.args.row + 1) _ c.loo
 pub returns-clause-ok : goal.returns-clause-ok
 returns-clause-ok c =
     let n = c.args.needs.now in
-    subst (λ (rows : List ℕ). IsWalkAt n.files.now c.args.row rows) (sym c.in_ok-rows_of.ensures)
+    subst (λ (rows : List ℕ). IsWalkAt n.files.now c.args.row rows) (sym (c.in_ok-rows_of.ensures ∙ c.deref.ensures.value))
     (under_ends n c.requires.folder.needs c.args.row c.loop-index.index c.loop-index.walking c.requires.row c.loop-index-test.false c.loop-index.invariant)

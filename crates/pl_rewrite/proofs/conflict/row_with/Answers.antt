@@ -1,6 +1,6 @@
 use Rattle.std.proofs.Common.{Bool, Option, Some, None, cond, ◌∙◌, ap, sym}
 use Rattle.pl_conflict.specs.Conflicts.{row_of}
-use Rattle.pl_conflict.proofs.RemainingLaws.{row_by}
+use Rattle.pl_conflict.proofs.HeldWordLaws.{row_by}
 use Rattle.pl_lists.specs.declared.conflict_row.ConflictRow.{ConflictRow}
 use Rattle.pl_value.specs.declared.word.Word.{Word}
 use Rattle.pl_rewrite.specs.RemainingRows.{is_put}

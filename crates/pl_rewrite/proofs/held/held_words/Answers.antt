@@ -1,7 +1,7 @@
 use Rattle.std.proofs.Common.{List, ℕ, get_or, refl, subst}
 use Rattle.std.specs.List.{AllZip}
 use Rattle.std.proofs.lemmas.List.{take_all}
-use Rattle.pl_conflict.proofs.RemainingLaws.{zip_more}
+use Rattle.pl_conflict.proofs.HeldWordLaws.{zip_more}
 use Rattle.pl_rewrite.proofs.HeldLaws.{told_by}
 use Rattle.pl_rewrite.specs.Held.{IsHeldIn}
 use Rattle.pl_rewrite.proofs.held.held_words.Goals as goal
