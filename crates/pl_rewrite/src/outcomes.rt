@@ -406,7 +406,7 @@ pub fn outcomes(
     plan: &RowPlan,
 ) -> Result<Vec<RowOutcome>, NoMemory>
     requires { spec.IsPlannedTable table plan.now }
-    ensures { IfOk result (λ v. spec.AreOutcomes table plan.now v.items) }
+    ensures { IfOk result (λ v. spec.AreOutcomes table.entry plan.now v.items) }
 {
     let RunTable {
         files,

@@ -87,14 +87,14 @@ fn form_of(
     work: &Work<'_>,
     row: usize,
     version: Version,
-    contents: &Contents,
+    made: &Contents,
 ) -> Result<Option<NewProgram>, NoMemory>
     requires work { contents.IsWork work.now }
     requires program { contents.IsProgramRow work.now row }
     requires set { are_set (spec.firms_of work.now.numbered.now row) ≡ true }
     requires fills { AreFirstFills (spec.firms_of work.now.numbered.now row)
-        contents.now.fills.items }
-    ensures { IfOk result (contents.IsProgramForm work.now row version contents.now) }
+        made.now.fills.items }
+    ensures { IfOk result (contents.IsProgramForm work.now row version made.now) }
 {
     let numbered = work.numbered;
     let files = numbered.files;
@@ -106,8 +106,8 @@ fn form_of(
     let digest = digest_at(files, work.digests, row);
     let original = taken.original();
     let listed = list.as_slice();
-    let fills = contents.fills.as_slice();
-    let rows = contents.rows.as_slice();
+    let fills = made.fills.as_slice();
+    let rows = made.rows.as_slice();
     match form_program_with(
         alloc, original, object, listed, fills, rows, version, &digest,
     ) {
@@ -143,7 +143,7 @@ fn file_with(
         among,
     };
     match contents_of(alloc, work, row, &linking) {
-        Ok(contents) => form_of(alloc, work, row, version, &contents),
+        Ok(made) => form_of(alloc, work, row, version, &made),
         Err(OrdinaryFault::Link(_)) => Ok(None),
         Err(OrdinaryFault::NoMemory) => Err(NoMemory),
     }

@@ -2,13 +2,13 @@ use Rattle.pl_rewrite.proofs.MadeRowLaws.{library_none, library_there}
 use Rattle.pl_rewrite.proofs.RowTestLaws.{file_at}
 use Rattle.pl_rewrite.proofs.outcomes.library_outcome.Goals as goal
 
-pub bounds-files-row : goal.bounds-files-row
-bounds-files-row c = c.requires.row.within
+pub bounds-numbered-row : goal.bounds-numbered-row
+bounds-numbered-row c = c.requires.row.within
 
 pub returns-in-Some : goal.returns-in-Some
 returns-in-Some c = library_there c.args.numbered.now c.args.row c.in_ok-made.made c.in-Some.library c.requires.row.library c.in-Some.is c.in_ok-made.ensures
 
 pub returns-in-None : goal.returns-in-None
 returns-in-None c =
-    let at = file_at c.args.numbered.now c.args.row c.index-files-row.result c.requires.row.within c.index-files-row.is in
-    library_none c.args.numbered.now c.args.row c.in_ok-made.made c.index-files-row.result c.in_ok-cause.cause c.requires.row.walk c.in-None.is c.in_ok-made.ensures at c.in_ok-cause.ensures
+    let at = file_at c.args.numbered.now c.args.row c.index-numbered-row.result c.requires.row.within c.index-numbered-row.is in
+    library_none c.args.numbered.now c.args.row c.in_ok-made.made c.index-numbered-row.result c.in_ok-cause.cause c.requires.row.walk c.in-None.is c.in_ok-made.ensures at c.in_ok-cause.ensures

@@ -11,12 +11,12 @@ contents_of-requires-clause-linking c =
     linking_of c.args.work.now c.args.row c.args.placed.now _ c.requires.work.numbered c.requires.program.walk c.requires.placed refl refl c.among-among.ensures.index c.among-among.ensures.positions
 
 pub form_of-requires-clause-fills : goal.form_of-requires-clause-fills
-form_of-requires-clause-fills c = first_fills (firms_of c.args.work.now.numbered.now c.args.row) c.in-Ok.ensures.given c.in-Ok.contents.fills.items c.in-Ok.ensures.fills
+form_of-requires-clause-fills c = first_fills (firms_of c.args.work.now.numbered.now c.args.row) c.in-Ok.ensures.given c.in-Ok.made.fills.items c.in-Ok.ensures.fills
 
 pub returns-in-Ok : goal.returns-in-Ok
 returns-in-Ok c =
     let linking = linking_of c.args.work.now c.args.row c.args.placed.now _ c.requires.work.numbered c.requires.program.walk c.requires.placed refl refl c.among-among.ensures.index c.among-among.ensures.positions in
-    IfOk-weaker c.form_of.result _ _ (λ made e. file_of_form c.args.work.now c.args.row _ c.requires.work c.requires.program linking c.requires.set c.in-Ok.contents c.args.version made c.in-Ok.ensures e) c.form_of.ensures
+    IfOk-weaker c.form_of.result _ _ (λ made e. file_of_form c.args.work.now c.args.row _ c.requires.work c.requires.program linking c.requires.set c.in-Ok.made c.args.version made c.in-Ok.ensures e) c.form_of.ensures
 
 pub returns-in-Err-Link : goal.returns-in-Err-Link
 returns-in-Err-Link c =

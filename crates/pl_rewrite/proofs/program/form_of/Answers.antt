@@ -45,7 +45,7 @@ form_program_with-requires-clause-firm c =
 pub form_program_with-requires-clause-fills : goal.form_program_with-requires-clause-fills
 form_program_with-requires-clause-fills c =
     let f = program_row c.args.work.now.numbered.now c.args.row c.index-files-row.result c.in-Some.object.now c.requires.program.walk c.index-files-row.is c.in-Some.ensures in
-    fills_are c.args.work.now.numbered.now c.args.row c.index-files-row.result c.in-Some.object.now c.as_slice-fills.result.now c.args.contents.now.fills.items f c.requires.fills c.as_slice-fills.ensures
+    fills_are c.args.work.now.numbered.now c.args.row c.index-files-row.result c.in-Some.object.now c.as_slice-fills.result.now c.args.made.now.fills.items f c.requires.fills c.as_slice-fills.ensures
 
 pub form_program_with-requires-clause-digest : goal.form_program_with-requires-clause-digest
 form_program_with-requires-clause-digest c =

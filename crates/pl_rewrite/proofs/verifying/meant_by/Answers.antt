@@ -36,8 +36,8 @@ digests_of-requires-clause-taken c = numbered_read c.args.numbered.now c.require
 pub digests_of-requires-clause-one_each : goal.digests_of-requires-clause-one_each
 digests_of-requires-clause-one_each c = c.requires.stale.count
 
-pub bounds-files-row : goal.bounds-files-row
-bounds-files-row c = row_within c.args.numbered.now c.args.row c.requires.walk
+pub bounds-numbered-row : goal.bounds-numbered-row
+bounds-numbered-row c = row_within c.args.numbered.now c.args.row c.requires.walk
 
 pub remove-one-requires : goal.remove-one-requires
 remove-one-requires c = omega (arith, row_within c.args.numbered.now c.args.row c.requires.walk, c.in_ok-row_words.ensures.count, c.in_ok-row_words.row_words.ok)
@@ -46,8 +46,8 @@ pub library_meant-requires-clause-row : goal.library_meant-requires-clause-row
 library_meant-requires-clause-row c =
     let n = c.args.numbered.now in
     let lt = row_within n c.args.row c.requires.walk in
-    let at = file_at n c.args.row c.index-files-row.result lt c.index-files-row.is in
-    let on = library_one n c.args.stale.now c.args.row c.index-files-row.result lt c.requires.stale at (sym c.is_library-library.ensures ∙ c.if-library.true) in
+    let at = file_at n c.args.row c.index-numbered-row.result lt c.index-numbered-row.is in
+    let on = library_one n c.args.stale.now c.args.row c.index-numbered-row.result lt c.requires.stale at (sym c.is_library-library.ensures ∙ c.if-library.true) in
     stale_library_row n c.args.stale.now c.args.row lt (column_one n c.args.stale.now c.args.row c.requires.stale c.requires.walk) on
 
 pub library_meant-requires-clause-digests : goal.library_meant-requires-clause-digests
@@ -58,8 +58,8 @@ library_meant-requires-clause-words c =
     let n = c.args.numbered.now in
     let all = c.in_ok-row_words.row_words.items in
     let lt = row_within n c.args.row c.requires.walk in
-    let file = file_at n c.args.row c.index-files-row.result lt c.index-files-row.is in
-    let on = library_one n c.args.stale.now c.args.row c.index-files-row.result lt c.requires.stale file (sym c.is_library-library.ensures ∙ c.if-library.true) in
+    let file = file_at n c.args.row c.index-numbered-row.result lt c.index-numbered-row.is in
+    let on = library_one n c.args.stale.now c.args.row c.index-numbered-row.result lt c.requires.stale file (sym c.is_library-library.ensures ∙ c.if-library.true) in
     let words = have_words n _ c.args.stale.now all refl (column_one n c.args.stale.now c.args.row c.requires.stale c.requires.walk) c.in_ok-row_words.ensures in
     let at : slice_get all c.args.row ≡ Some c.remove-one.result = slice_get_read all (length all) c.args.row c.remove-one.result refl (omega (arith, lt, words.count)) c.remove-one.ensures.value in
     words.each c.args.row c.remove-one.result at on
@@ -79,7 +79,7 @@ pub program_meant-requires-clause-program : goal.program_meant-requires-clause-p
 program_meant-requires-clause-program c =
     let n = c.args.numbered.now in
     let lt = row_within n c.args.row c.requires.walk in
-    let at = file_at n c.args.row c.index-files-row.result lt c.index-files-row.is in
-    let on = program_one n c.args.stale.now c.args.row c.index-files-row.result lt c.requires.stale at (sym c.is_library-library.ensures ∙ c.if-library.false) in
+    let at = file_at n c.args.row c.index-numbered-row.result lt c.index-numbered-row.is in
+    let on = program_one n c.args.stale.now c.args.row c.index-numbered-row.result lt c.requires.stale at (sym c.is_library-library.ensures ∙ c.if-library.false) in
     let held = subst (AreHeldFlags n c.args.stale.now) (sym c.as_slice-held.ensures) c.in_ok-flags.ensures in
     program_rows _ _ c.args.stale.now c.requires.numbered refl held (column_one n c.args.stale.now c.args.row c.requires.stale c.requires.walk) (rw c.as_slice-told.ensures c.in_ok-row_words.ensures) c.args.row on
