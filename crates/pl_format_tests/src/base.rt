@@ -1,6 +1,6 @@
 // Tests of pl_base: names of files, and strings.
-use crate::cases::parts;
 use pl_base::{Strings, is_own_name, is_valid_name, string_at, valid_text};
+use pl_cases::{number, parts};
 use std::test::Fail;
 
 /// Whether a text is a valid name, and the text.
@@ -35,7 +35,9 @@ fn is_told(line: &str) -> Result<bool, Fail> {
 #[test]
 fn knows_valid_names(rt: HostRuntime) -> Result<(), Fail> {
     for line in NAMES.lines() {
-        assert!(rt; is_told(line)?, "{line}");
+        if !is_told(line)? {
+            return Err(line.into());
+        }
     }
     let long = [b'n'; 256];
     assert!(rt; is_valid_name(&long[1..]) && !is_valid_name(&long));
@@ -44,17 +46,16 @@ fn knows_valid_names(rt: HostRuntime) -> Result<(), Fail> {
 
 const STRINGS: &[u8] = b"\0main\0x\0end";
 
-/// Offsets, and the string that begins at each.
-const BEGINS: [(u32, Option<&[u8]>); 8] = [
-    (0, Some(b"")),
-    (1, Some(b"main")),
-    (3, Some(b"in")),
-    (5, Some(b"")),
-    (6, Some(b"x")),
-    (8, None),
-    (11, None),
-    (u32::MAX, None),
-];
+/// Offsets, in hexadecimal, and the string that begins at each.
+const BEGINS: &str = "\
+0:\n\
+1: main\n\
+3: in\n\
+5:\n\
+6: x";
+
+/// Offsets at which no string begins that has an end.
+const WITHOUT_END: [u32; 3] = [8, 11, u32::MAX];
 
 /// Whether such a string, or none, begins at an offset.
 fn begins(at: u32, string: Option<&[u8]>) -> bool {
@@ -65,9 +66,20 @@ fn begins(at: u32, string: Option<&[u8]>) -> bool {
 }
 
 #[test]
-fn reads_strings(rt: HostRuntime) {
-    for (at, string) in &BEGINS {
-        assert!(rt; begins(*at, *string), "{at}");
+fn reads_strings(rt: HostRuntime) -> Result<(), Fail> {
+    for line in BEGINS.lines() {
+        let (at, string) = parts(line)?;
+        if !begins(u32::try_from(number(at)?)?, Some(string.as_bytes())) {
+            return Err(line.into());
+        }
     }
     assert!(rt; string_at(STRINGS, u64::MAX).is_none());
+    Ok(())
+}
+
+#[test]
+fn reads_no_string_without_an_end(rt: HostRuntime) {
+    for at in WITHOUT_END {
+        assert!(rt; begins(at, None));
+    }
 }

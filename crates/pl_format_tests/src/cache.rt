@@ -1,6 +1,7 @@
 // Tests of pl_cache.
 use pl_base::Rows;
 use pl_cache::{Cache, CacheFault, is_cache, read_cache, write_cache};
+use pl_cases::bytes_of;
 use std::alloc::{AllocError, Global};
 use std::test::Fail;
 
@@ -36,23 +37,26 @@ fn writes_no_rows(rt: HostRuntime) {
     assert!(rt; write_cache(rt.alloc(), &cache).as_deref() == Ok(bytes));
 }
 
-const BAD: [&[u8]; 4] = [
-    b"",
-    b"abc",
-    b"PLCACHE2\x84\x03\0\0\0\0\0\0",
-    b"PLCACHE1\x84\x03\0\0\0\0\0\0\0",
-];
+/// Bytes that are no cache, in hexadecimal: none, three, the second magic without rows, and a byte behind the rows.
+const BAD: &str = "\n\
+61 62 63\n\
+50 4c 43 41 43 48 45 32 84 03 0 0 0 0 0 0\n\
+50 4c 43 41 43 48 45 31 84 03 0 0 0 0 0 0 0";
+
+fn is_refused(alloc: Global, bytes: &[u8]) -> bool {
+    matches!(read_cache(alloc, bytes), Err(CacheFault::BadCache))
+}
 
 #[test]
-fn refuses_what_is_no_cache(rt: HostRuntime) {
+fn refuses_what_is_no_cache(rt: HostRuntime) -> Result<(), Fail> {
     let alloc = rt.alloc();
-    for bytes in &BAD {
-        assert!(rt;
-            matches!(read_cache(alloc, bytes), Err(CacheFault::BadCache)),
-            "{bytes:?}"
-        );
+    for line in BAD.lines() {
+        if !is_refused(alloc, &bytes_of(alloc, line)?) {
+            return Err(line.into());
+        }
     }
-    assert!(rt; matches!(read_cache(alloc, &ONE_ROW[..36]), Err(CacheFault::BadCache)));
+    assert!(rt; is_refused(alloc, &ONE_ROW[..36]));
+    Ok(())
 }
 
 /// A cache of so many slots, a page each, one behind the other.
@@ -74,7 +78,7 @@ fn reads_the_most_rows(rt: HostRuntime) -> Result<(), Fail> {
     let bytes = cache_of(alloc, 1024)?;
     assert!(rt; read_cache(alloc, &bytes).is_ok());
     let bytes = cache_of(alloc, 1025)?;
-    assert!(rt; matches!(read_cache(alloc, &bytes), Err(CacheFault::BadCache)));
+    assert!(rt; is_refused(alloc, &bytes));
     Ok(())
 }
 
@@ -94,10 +98,10 @@ fn tells_shared_addresses_by_the_magic(rt: HostRuntime) -> Result<(), Fail> {
     assert!(rt; write_cache(alloc, &cache).as_deref() == Ok(SHARED.as_slice()));
     let mut other = SHARED;
     other[7] = b'1';
-    assert!(rt; matches!(read_cache(alloc, &other), Err(CacheFault::BadCache)));
+    assert!(rt; is_refused(alloc, &other));
     other = SHARED;
     other[37] = 0x10;
-    assert!(rt; matches!(read_cache(alloc, &other), Err(CacheFault::BadCache)));
+    assert!(rt; is_refused(alloc, &other));
     other[7] = b'1';
     assert!(rt; read_cache(alloc, &other).is_ok());
     Ok(())

@@ -1,5 +1,5 @@
 // Tests of pl_dyn.
-use crate::cases::{numbers, parts};
+use pl_cases::{numbers, parts};
 use pl_dyn::constants::{
     DT_GNU_HASH, DT_HASH, DT_INIT_ARRAY, DT_INIT_ARRAYSZ, DT_JMPREL, DT_NEEDED, DT_PLTGOT,
     DT_PLTREL, DT_PLTRELSZ, DT_RELA, DT_RELACOUNT, DT_RELAENT, DT_RELASZ, DT_SONAME, DT_STRSZ,
@@ -137,7 +137,9 @@ fn is_answered(alloc: Global, line: &str) -> Result<bool, Fail> {
 #[test]
 fn refuses_by_the_first_clause(rt: HostRuntime) -> Result<(), Fail> {
     for line in TABLES.lines() {
-        assert!(rt; is_answered(rt.alloc(), line)?, "{line}");
+        if !is_answered(rt.alloc(), line)? {
+            return Err(line.into());
+        }
     }
     Ok(())
 }
@@ -208,11 +210,18 @@ fn is_known(number: u64) -> bool {
         && is_listed(number) == (address || value || prelink)
 }
 
-#[test]
-fn knows_the_kinds(rt: HostRuntime) {
-    for (first, last) in [(0, 64), (0x6fff_fc00, 0x7000_0100)] {
-        for number in first..=last {
-            assert!(rt; is_known(number), "{number}");
+/// The first of the tags from one to another whose kinds are other ones.
+fn unknown(first: u64, last: u64) -> Option<u64> {
+    for number in first..=last {
+        if !is_known(number) {
+            return Some(number);
         }
     }
+    None
+}
+
+#[test]
+fn knows_the_kinds(rt: HostRuntime) {
+    assert_eq!(rt; unknown(0, 64), None);
+    assert_eq!(rt; unknown(0x6fff_fc00, 0x7000_0100), None);
 }

@@ -1,5 +1,5 @@
 // Tests of pl_folder. Files are spelled as text: each name with its bytes, parted by blanks.
-use crate::cases::{number, numbers, parts};
+use pl_cases::{number, numbers, parts};
 use pl_folder::{Folder, FolderFault, MemoryFolder, QuietFolder, STORED, are_files};
 use std::alloc::{AllocError, Global};
 use std::test::Fail;
@@ -34,17 +34,25 @@ fn is_told(alloc: Global, line: &str) -> Result<bool, Fail> {
 fn knows_files(rt: HostRuntime) -> Result<(), Fail> {
     let alloc = rt.alloc();
     for line in LISTS.lines() {
-        assert!(rt; is_told(alloc, line)?, "{line}");
-    }
-    for (len, fine) in [(255, true), (256, false)] {
-        let name = "n".repeat(alloc, len)?;
-        assert!(rt;
-            are_files(&files_of(alloc, name.as_str())?) == fine,
-            "{len}"
-        );
+        if !is_told(alloc, line)? {
+            return Err(line.into());
+        }
     }
     // The clauses name the limit, so its number stands here once more.
     assert!(rt; STORED == 268_435_456);
+    Ok(())
+}
+
+/// Whether a name of so many bytes is told to be a folder's.
+fn is_name_of(alloc: Global, len: usize) -> Result<bool, AllocError> {
+    let name = "n".repeat(alloc, len)?;
+    Ok(are_files(&files_of(alloc, name.as_str())?))
+}
+
+#[test]
+fn knows_the_longest_name(rt: HostRuntime) -> Result<(), AllocError> {
+    assert!(rt; is_name_of(rt.alloc(), 255)?);
+    assert!(rt; !is_name_of(rt.alloc(), 256)?);
     Ok(())
 }
 
@@ -238,17 +246,34 @@ fn leaves_read(alloc: Global, folder: &MemoryFolder, line: &str) -> Result<bool,
     Ok(leaves(alloc, folder, number(moment)?, u64::MAX, files)?)
 }
 
+/// A folder of two files after the seven calls.
+fn changed(alloc: Global) -> Result<MemoryFolder, FolderFault> {
+    let mut folder = folder(alloc, 100, 100)?;
+    change(alloc, &mut folder)?;
+    Ok(folder)
+}
+
 #[test]
 fn leaves_what_is_chosen(rt: HostRuntime) -> Result<(), Fail> {
     let alloc = rt.alloc();
-    let mut folder = folder(alloc, 100, 100)?;
-    change(alloc, &mut folder)?;
-    assert!(rt; folder.moments() == 7);
+    let folder = changed(alloc)?;
     for line in IMAGES.lines() {
-        assert!(rt; leaves_image(alloc, &folder, line)?, "{line}");
+        if !leaves_image(alloc, &folder, line)? {
+            return Err(line.into());
+        }
     }
+    Ok(())
+}
+
+#[test]
+fn leaves_what_a_read_gives(rt: HostRuntime) -> Result<(), Fail> {
+    let alloc = rt.alloc();
+    let folder = changed(alloc)?;
+    assert!(rt; folder.moments() == 7);
     for line in READS.lines() {
-        assert!(rt; leaves_read(alloc, &folder, line)?, "{line}");
+        if !leaves_read(alloc, &folder, line)? {
+            return Err(line.into());
+        }
     }
     assert!(rt; leaves(alloc, &folder, 7, u64::MAX, READ)?);
     Ok(())
@@ -267,7 +292,9 @@ fn fails_at(alloc: Global, line: &str) -> Result<bool, Fail> {
 #[test]
 fn fails_at_each_call(rt: HostRuntime) -> Result<(), Fail> {
     for line in READS.lines() {
-        assert!(rt; fails_at(rt.alloc(), line)?, "{line}");
+        if !fails_at(rt.alloc(), line)? {
+            return Err(line.into());
+        }
     }
     Ok(())
 }

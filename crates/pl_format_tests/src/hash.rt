@@ -1,33 +1,38 @@
 // Tests of pl_hash.
-use crate::cases::{number, numbers, parts};
 use pl_base::Rows;
+use pl_cases::{number, numbers, numbers32, parts};
 use pl_hash::{Table, first, found, gnu_hash, name_hash, next, sysv_hash, well_formed};
 use std::alloc::{AllocError, Global};
-use std::process::Abort;
 use std::test::Fail;
 
-/// Names with their hashes in the two tables.
-const HASHES: [(&[u8], u32, u32); 8] = [
-    (b"", 0, 5381),
-    (b"f", 0x66, 0x2b60b),
-    (b"printf", 0x77905a6, 0x156b2bb8),
-    (b"exit", 0x6cf04, 0x7c967e3f),
-    (b"syscall", 0xb09985c, 0xbac212a0),
-    (b"flapenguin.me", 0x3987915, 0x8ae9f18e),
-    (b"a_name_that_is_long_enough_to_wrap", 0x3e0d720, 0x1ec3e280),
-    (
-        &[0xff, 0xff, 0xff, 0xff, 0xff, 0xff, 0xff, 0xff],
-        0x10ef,
-        0xe3f2ee7d,
-    ),
-];
+/// The hashes of names in the two tables, in hexadecimal, and the names.
+const HASHES: &str = "\
+0 1505:\n\
+66 2b60b: f\n\
+77905a6 156b2bb8: printf\n\
+6cf04 7c967e3f: exit\n\
+b09985c bac212a0: syscall\n\
+3987915 8ae9f18e: flapenguin.me\n\
+3e0d720 1ec3e280: a_name_that_is_long_enough_to_wrap";
+
+/// Whether the name of a line has its hashes.
+fn has_hashes(alloc: Global, line: &str) -> Result<bool, Fail> {
+    let (hashes, name) = parts(line)?;
+    let hashes = numbers32(alloc, hashes)?;
+    let found = [sysv_hash(name.as_bytes()), gnu_hash(name.as_bytes())];
+    Ok(hashes.as_slice() == found.as_slice())
+}
 
 #[test]
-fn hashes_names(rt: HostRuntime) {
-    for (name, sysv, gnu) in &HASHES {
-        assert!(rt; sysv_hash(name) == *sysv, "{name:?}");
-        assert!(rt; gnu_hash(name) == *gnu, "{name:?}");
+fn hashes_names(rt: HostRuntime) -> Result<(), Fail> {
+    for line in HASHES.lines() {
+        if !has_hashes(rt.alloc(), line)? {
+            return Err(line.into());
+        }
     }
+    let bytes = [0xff; 8];
+    assert!(rt; sysv_hash(&bytes) == 0x10ef && gnu_hash(&bytes) == 0xe3f2ee7d);
+    Ok(())
 }
 
 /// A table of words of 32 bits; its bytes are the first so many of them.
@@ -105,17 +110,19 @@ fn is_told(alloc: Global, gnu: bool, form: &str) -> Result<bool, Fail> {
     Ok(well_formed(&table) == (*good == 1))
 }
 
-fn expect_forms(rt: &impl Abort, alloc: Global, gnu: bool, forms: &str) -> Result<(), Fail> {
+fn expect_forms(alloc: Global, gnu: bool, forms: &str) -> Result<(), Fail> {
     for form in forms.lines() {
-        assert!(rt; is_told(alloc, gnu, form)?, "{form}");
+        if !is_told(alloc, gnu, form)? {
+            return Err(form.into());
+        }
     }
     Ok(())
 }
 
 #[test]
 fn tells_forms(rt: HostRuntime) -> Result<(), Fail> {
-    expect_forms(&rt, rt.alloc(), false, SYSV_FORMS)?;
-    expect_forms(&rt, rt.alloc(), true, GNU_FORMS)
+    expect_forms(rt.alloc(), false, SYSV_FORMS)?;
+    expect_forms(rt.alloc(), true, GNU_FORMS)
 }
 
 /// What `first` and `next` list for a hash.
@@ -157,9 +164,11 @@ fn lists(alloc: Global, table: &Table, line: &str) -> Result<bool, Fail> {
     Ok(found.as_slice() == numbers(alloc, symbols)?.as_slice())
 }
 
-fn expect_lists(rt: &impl Abort, alloc: Global, table: &Table, lines: &str) -> Result<(), Fail> {
+fn expect_lists(alloc: Global, table: &Table, lines: &str) -> Result<(), Fail> {
     for line in lines.lines() {
-        assert!(rt; lists(alloc, table, line)?, "{line}");
+        if !lists(alloc, table, line)? {
+            return Err(line.into());
+        }
     }
     Ok(())
 }
@@ -167,9 +176,9 @@ fn expect_lists(rt: &impl Abort, alloc: Global, table: &Table, lines: &str) -> R
 #[test]
 fn lists_candidates(rt: HostRuntime) -> Result<(), Fail> {
     let alloc = rt.alloc();
-    expect_lists(&rt, alloc, &table(alloc, false, 4, &SYSV, 32)?, SYSV_LISTS)?;
-    expect_lists(&rt, alloc, &table(alloc, true, 4, &GNU, 52)?, GNU_LISTS)?;
-    expect_lists(&rt, alloc, &table(alloc, true, 9, &EMPTY, 28)?, EMPTY_LISTS)
+    expect_lists(alloc, &table(alloc, false, 4, &SYSV, 32)?, SYSV_LISTS)?;
+    expect_lists(alloc, &table(alloc, true, 4, &GNU, 52)?, GNU_LISTS)?;
+    expect_lists(alloc, &table(alloc, true, 9, &EMPTY, 28)?, EMPTY_LISTS)
 }
 
 /// The `.hash` of a library that gcc and GNU ld made (`gcc -shared -nostdlib -Wl,--hash-style=both`), in words.
@@ -261,9 +270,11 @@ fn names(alloc: Global, table: &Table, line: &str) -> Result<bool, Fail> {
     Ok(found.as_slice() == numbers(alloc, symbols)?.as_slice())
 }
 
-fn expect_names(rt: &impl Abort, alloc: Global, table: &Table, lines: &str) -> Result<(), Fail> {
+fn expect_names(alloc: Global, table: &Table, lines: &str) -> Result<(), Fail> {
     for line in lines.lines() {
-        assert!(rt; names(alloc, table, line)?, "{line}");
+        if !names(alloc, table, line)? {
+            return Err(line.into());
+        }
     }
     Ok(())
 }
@@ -272,18 +283,16 @@ fn expect_names(rt: &impl Abort, alloc: Global, table: &Table, lines: &str) -> R
 fn reads_libraries(rt: HostRuntime) -> Result<(), Fail> {
     let alloc = rt.alloc();
     expect_names(
-        &rt,
         alloc,
         &table(alloc, false, 24, &LIBRARY_HASH, 172)?,
         SYSV_NAMES,
     )?;
     expect_names(
-        &rt,
         alloc,
         &table(alloc, true, 24, &LIBRARY_GNU_HASH, 184)?,
         GNU_NAMES,
     )?;
-    expect_names(&rt, alloc, &table(alloc, true, 8, &TWINS, 64)?, TWIN_NAMES)
+    expect_names(alloc, &table(alloc, true, 8, &TWINS, 64)?, TWIN_NAMES)
 }
 
 /// What `found` tells of symbols with such hashes.

@@ -1,13 +1,13 @@
 // Tests of pl_journal, over a folder in memory.
 ghost use Rattle.pl_base.specs.Names.{IsNameLength};
 
-use crate::cases::parts;
 use crate::folder::{folder_of, has, image};
 use pl_base::{Rows, Text};
-use pl_folder::{FolderFault, MemoryFolder};
+use pl_cases::parts;
+use pl_folder::{Folder, FolderFault, MemoryFolder};
 use pl_journal::{
-    Change, JournalFault, Row, Takes, are_changes, carry_out, read_journal, recover, recover_lent,
-    write_journal,
+    Change, Committed, JournalFault, Row, Takes, are_changes, carry_out, read_journal, recover,
+    recover_lent, write_journal,
 };
 use pl_stage::Held;
 use std::alloc::Global;
@@ -146,11 +146,19 @@ fn fails_at(alloc: Global, fails: u64) -> Result<bool, JournalFault> {
 }
 
 #[test]
-fn fails_at_each_call(rt: HostRuntime) -> Result<(), JournalFault> {
+fn fails_at_each_call(rt: HostRuntime) -> Result<(), Fail> {
     for fails in 0..23 {
-        assert!(rt; fails_at(rt.alloc(), fails)?, "{fails}");
+        if !fails_at(rt.alloc(), fails)? {
+            return Err(fails.into());
+        }
     }
     Ok(())
+}
+
+/// Ends a run whose rows are not all done.
+fn given_up<D: Folder>(committed: Committed<'_, D>) -> JournalFault {
+    committed.stop().leave();
+    JournalFault::Failed
 }
 
 /// Makes the changes state by state. The three rows are left after the commit, and then none.
@@ -164,20 +172,16 @@ fn run_by_states(alloc: Global, folder: &mut MemoryFolder) -> Result<(), Journal
     let staged = settled.stage(alloc, &changes)?;
     let mut committed = staged.commit()?;
     let Ok(true) = committed.rename_next() else {
-        committed.stop().leave();
-        return Err(JournalFault::Failed);
+        return Err(given_up(committed));
     };
     let Ok(true) = committed.rename_next() else {
-        committed.stop().leave();
-        return Err(JournalFault::Failed);
+        return Err(given_up(committed));
     };
     let Ok(true) = committed.rename_next() else {
-        committed.stop().leave();
-        return Err(JournalFault::Failed);
+        return Err(given_up(committed));
     };
     let Ok(false) = committed.rename_next() else {
-        committed.stop().leave();
-        return Err(JournalFault::Failed);
+        return Err(given_up(committed));
     };
     let settled = committed.finish()?;
     settled.leave();
@@ -200,10 +204,12 @@ fn fails_by_states(alloc: Global, fails: u64) -> Result<bool, JournalFault> {
 }
 
 #[test]
-fn goes_from_state_to_state(rt: HostRuntime) -> Result<(), JournalFault> {
+fn goes_from_state_to_state(rt: HostRuntime) -> Result<(), Fail> {
     assert!(rt; goes_by_states(rt.alloc())?);
     for fails in 0..23 {
-        assert!(rt; fails_by_states(rt.alloc(), fails)?, "{fails}");
+        if !fails_by_states(rt.alloc(), fails)? {
+            return Err(fails.into());
+        }
     }
     Ok(())
 }
@@ -262,8 +268,7 @@ fn takes_committed(alloc: Global, folder: &mut MemoryFolder) -> Result<bool, Jou
     let mut committed = staged.commit()?;
     let old = committed.take_now(alloc, "a").as_deref() == Ok(b"old".as_slice());
     let Ok(true) = committed.rename_next() else {
-        committed.stop().leave();
-        return Err(JournalFault::Failed);
+        return Err(given_up(committed));
     };
     let new = reads(alloc, &mut committed, "a", b"new");
     let left = reads(alloc, &mut committed, "b", b"gone");
@@ -304,7 +309,9 @@ fn recovers(alloc: Global, line: &str) -> Result<bool, Fail> {
 #[test]
 fn recovers_what_is_left(rt: HostRuntime) -> Result<(), Fail> {
     for line in RECOVERED.lines() {
-        assert!(rt; recovers(rt.alloc(), line)?, "{line:?}");
+        if !recovers(rt.alloc(), line)? {
+            return Err(line.into());
+        }
     }
     Ok(())
 }
@@ -335,9 +342,11 @@ fn is_refused(alloc: Global, journal: &str) -> Result<bool, JournalFault> {
 }
 
 #[test]
-fn refuses_bad_journals(rt: HostRuntime) -> Result<(), JournalFault> {
+fn refuses_bad_journals(rt: HostRuntime) -> Result<(), Fail> {
     for journal in BAD.lines() {
-        assert!(rt; is_refused(rt.alloc(), journal)?, "{journal:?}");
+        if !is_refused(rt.alloc(), journal)? {
+            return Err(journal.into());
+        }
     }
     Ok(())
 }

@@ -6,8 +6,6 @@ mod base;
 #[cfg(test)]
 mod cache;
 #[cfg(test)]
-mod cases;
-#[cfg(test)]
 mod dynamic;
 #[cfg(test)]
 mod elf;

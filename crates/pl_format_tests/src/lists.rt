@@ -2,11 +2,13 @@
 ghost use Rattle.std.specs.Prelude.{◌≡◌, IfOk};
 
 use pl_base::Text;
+use pl_cases::{numbers, parts};
 use pl_io::NoMemory;
 use pl_lists::{
     ConflictRow, ListFault, ListRow, read_conflicts, read_list, write_conflicts, write_list,
 };
 use std::alloc::{AllocError, Global};
+use std::test::Fail;
 
 const STRINGS: &[u8] = b"\0libm.so.6\0liba\0libb\0";
 
@@ -73,30 +75,47 @@ fn changed(at: usize, byte: u8) -> [u8; 40] {
     table
 }
 
-/// An offset in the rows and the byte there, and strings that are not theirs then.
-const BAD_LISTS: [(usize, u8, &[u8]); 8] = [
-    (0, LIBA, b"\0libm.so.6\0liba\0liba\0"),
-    (0, LIBA, b"\0libm.so.6\0liba\0libb\0libc\0"),
-    (0, LIBA, b"\0libm.so.6\0liba\0libb"),
-    (0, LIBA, b"\0libm.so.6\0li/a\0libb\0"),
-    (0, LIBA, b"\0libm.so.6\0lib\xe1\0libb\0"),
-    (0, LIBA - 1, STRINGS),
-    (12, 1, STRINGS),
-    (20, LIBA + 4, STRINGS),
-];
+/// An offset in the rows and the byte there, in hexadecimal, and strings that are not theirs then, each of which ends with a bar.
+const BAD_LISTS: &str = "\
+0 b: |libm.so.6|liba|liba|\n\
+0 b: |libm.so.6|liba|libb|libc|\n\
+0 b: |libm.so.6|liba|libb\n\
+0 b: |libm.so.6|li/a|libb|\n\
+0 a: |libm.so.6|liba|libb|\n\
+c 1: |libm.so.6|liba|libb|\n\
+14 f: |libm.so.6|liba|libb|";
 
 fn list_fault(alloc: Global, table: &[u8], strings: &[u8]) -> Option<ListFault> {
     read_list(alloc, table, strings).err()
 }
 
+/// Whether the list of a line is refused.
+fn is_refused(alloc: Global, line: &str) -> Result<bool, Fail> {
+    let (change, strings) = parts(line)?;
+    let change = numbers(alloc, change)?;
+    let [at, byte] = change.as_slice() else {
+        return Err("an offset and a byte".into());
+    };
+    let table = changed(*at as usize, u8::try_from(*byte)?);
+    let strings = strings.replace(alloc, "|", "\0")?;
+    Ok(list_fault(alloc, &table, strings.as_bytes()) == Some(ListFault::BadList))
+}
+
 #[test]
-fn refuses_lists(rt: HostRuntime) {
+fn refuses_lists(rt: HostRuntime) -> Result<(), Fail> {
+    for line in BAD_LISTS.lines() {
+        if !is_refused(rt.alloc(), line)? {
+            return Err(line.into());
+        }
+    }
+    Ok(())
+}
+
+#[test]
+fn refuses_a_cut_list_and_no_text(rt: HostRuntime) {
     let alloc = rt.alloc();
     let bad = Some(ListFault::BadList);
-    for (at, byte, strings) in &BAD_LISTS {
-        let fault = list_fault(alloc, &changed(*at, *byte), strings);
-        assert!(rt; fault == bad, "{at} {byte}");
-    }
+    assert!(rt; list_fault(alloc, &LIST, b"\0libm.so.6\0lib\xe1\0libb\0") == bad);
     assert!(rt; list_fault(alloc, &LIST[..39], STRINGS) == bad);
     assert!(rt; list_fault(alloc, &[], b"libc\0").is_none());
 }
@@ -133,7 +152,7 @@ fn conflicts_both_ways(rt: HostRuntime) -> Result<(), ListFault> {
 const BAD_CONFLICTS: [(usize, u8); 2] = [(8, 2), (24, 0)];
 
 #[test]
-fn refuses_conflicts(rt: HostRuntime) {
+fn refuses_conflicts(rt: HostRuntime) -> Result<(), Fail> {
     let alloc = rt.alloc();
     let bad = Some(ListFault::BadList);
     for (at, byte) in &BAD_CONFLICTS {
@@ -141,7 +160,10 @@ fn refuses_conflicts(rt: HostRuntime) {
         if *at < table.len() {
             table[*at] = *byte;
         }
-        assert!(rt; read_conflicts(alloc, &table).err() == bad, "{at}");
+        if read_conflicts(alloc, &table).err() != bad {
+            return Err((*at).into());
+        }
     }
     assert!(rt; read_conflicts(alloc, &CONFLICTS[..47]).err() == bad);
+    Ok(())
 }

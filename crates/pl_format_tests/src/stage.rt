@@ -3,8 +3,8 @@ ghost use Rattle.std.specs.Prelude.{OnOk};
 ghost use Rattle.pl_base.specs.Names.{IsNameLength};
 ghost use Rattle.pl_folder.specs.Calls.{IsThere};
 
-use crate::cases::{number, parts};
 use crate::folder::{folder, has};
+use pl_cases::{number, parts};
 use pl_folder::{Folder, FolderFault, MemoryFolder};
 use pl_stage::{Held, firm_there, fresh};
 use std::alloc::Global;
@@ -66,7 +66,9 @@ fn fails_at(alloc: Global, line: &str) -> Result<bool, Fail> {
 #[test]
 fn fails_at_each_call(rt: HostRuntime) -> Result<(), Fail> {
     for line in NAMED.lines() {
-        assert!(rt; fails_at(rt.alloc(), line)?, "{line}");
+        if !fails_at(rt.alloc(), line)? {
+            return Err(line.into());
+        }
     }
     Ok(())
 }
@@ -125,7 +127,9 @@ fn names_a_file_that_is_there(rt: HostRuntime) -> Result<(), Fail> {
     name_there(alloc, &mut whole)?;
     assert!(rt; has(alloc, &mut whole, ALL_THERE)?);
     for line in THERE.lines() {
-        assert!(rt; fails_there(alloc, line)?, "{line}");
+        if !fails_there(alloc, line)? {
+            return Err(line.into());
+        }
     }
     Ok(())
 }

@@ -1,4 +1,5 @@
 // Tests of pl_sym.
+use pl_cases::{numbers, parts};
 use pl_sym::constants::{
     SHN_ABS, SHN_HIRESERVE, SHN_LORESERVE, SHN_UNDEF, STB_GLOBAL, STB_GNU_UNIQUE, STB_LOCAL,
     STB_WEAK, STT_FILE, STT_FUNC, STT_GNU_IFUNC, STT_NOTYPE, STT_OBJECT, STT_SECTION, STT_TLS,
@@ -7,33 +8,39 @@ use pl_sym::constants::{
 use pl_sym::{Class, Name, SymFault, Symbol, is_definer, read_symbols};
 use pl_ver::constants::VER_NDX_GLOBAL;
 use std::alloc::{AllocError, Global};
-use std::process::Abort;
+use std::test::Fail;
 
 /// Value, binding, type, visibility and section.
 type Fields = (u64, u8, u8, u8, u16);
 
-fn fields(symbol: &Symbol) -> Fields {
-    (
+/// Whether a symbol without a version is that of a line: its name, and in hexadecimal its size, value, binding, type, visibility and section.
+fn is_symbol(alloc: Global, symbol: &Symbol, line: &str) -> Result<bool, Fail> {
+    let (name, wanted) = parts(line)?;
+    let found = [
+        symbol.size,
         symbol.value,
-        symbol.bind,
-        symbol.kind,
-        symbol.visibility,
-        symbol.section,
-    )
+        u64::from(symbol.bind),
+        u64::from(symbol.kind),
+        u64::from(symbol.visibility),
+        u64::from(symbol.section),
+    ];
+    let named = symbol.name.as_slice() == name.as_bytes() && symbol.version == VER_NDX_GLOBAL;
+    Ok(named && numbers(alloc, wanted)?.as_slice() == found.as_slice())
 }
 
-/// Name, size and the other fields.
-type Row = (&'static [u8], u64, Fields);
-
-/// Whether the symbols are these.
-fn has_rows(symbols: &[Symbol], rows: &[Row]) -> bool {
-    for (symbol, (name, size, wanted)) in symbols.iter().zip(rows) {
-        let named = symbol.name.as_slice() == *name && symbol.version == VER_NDX_GLOBAL;
-        if !named || symbol.size != *size || fields(symbol) != *wanted {
-            return false;
+/// Whether the symbols are those of lines.
+fn has_rows(alloc: Global, symbols: &[Symbol], lines: &str) -> Result<bool, Fail> {
+    let mut count = 0usize;
+    for line in lines.lines() {
+        let Some(symbol) = symbols.get(count) else {
+            return Ok(false);
+        };
+        if !is_symbol(alloc, symbol, line)? {
+            return Ok(false);
         }
+        count = count.saturating_add(1);
     }
-    symbols.len() == rows.len()
+    Ok(count == symbols.len())
 }
 
 /// The `.dynsym` of a library that gcc and GNU ld 2.40 made (`gcc -shared -nostdlib -Wl,--hash-style=both`, with a version script and a library that it needs).
@@ -55,44 +62,19 @@ const LIBRARY_STRINGS: &[u8] =
     b"\0call\0outside\0weak_one\0local_place\0local_count\0__tls_get_addr\0table\0f\0libb.so\0liba.so\0V1\0V2\0";
 
 /// Its symbols as `readelf --dyn-syms` tells them.
-const LIBRARY: [Row; 12] = [
-    (b"", 0, (0, STB_LOCAL, STT_NOTYPE, STV_DEFAULT, SHN_UNDEF)),
-    (
-        b"outside",
-        0,
-        (0, STB_GLOBAL, STT_FUNC, STV_DEFAULT, SHN_UNDEF),
-    ),
-    (
-        b"__tls_get_addr",
-        0,
-        (0, STB_GLOBAL, STT_NOTYPE, STV_DEFAULT, SHN_UNDEF),
-    ),
-    (b"f", 6, (0x106a, STB_GLOBAL, STT_FUNC, STV_DEFAULT, 11)),
-    (
-        b"local_place",
-        25,
-        (0x104b, STB_GLOBAL, STT_FUNC, STV_DEFAULT, 11),
-    ),
-    (b"V1", 0, (0, STB_GLOBAL, STT_OBJECT, STV_DEFAULT, SHN_ABS)),
-    (
-        b"table",
-        24,
-        (0x4020, STB_GLOBAL, STT_OBJECT, STV_DEFAULT, 20),
-    ),
-    (b"local_count", 4, (0, STB_GLOBAL, STT_TLS, STV_DEFAULT, 14)),
-    (
-        b"count",
-        4,
-        (0x4010, STB_GLOBAL, STT_OBJECT, STV_DEFAULT, 19),
-    ),
-    (b"call", 21, (0x1030, STB_GLOBAL, STT_FUNC, STV_DEFAULT, 11)),
-    (
-        b"weak_one",
-        6,
-        (0x1045, STB_WEAK, STT_FUNC, STV_DEFAULT, 11),
-    ),
-    (b"V2", 0, (0, STB_GLOBAL, STT_OBJECT, STV_DEFAULT, SHN_ABS)),
-];
+const LIBRARY: &str = "\
+: 0 0 0 0 0 0\n\
+outside: 0 0 1 2 0 0\n\
+__tls_get_addr: 0 0 1 0 0 0\n\
+f: 6 106a 1 2 0 b\n\
+local_place: 19 104b 1 2 0 b\n\
+V1: 0 0 1 1 0 fff1\n\
+table: 18 4020 1 1 0 14\n\
+local_count: 4 0 1 6 0 e\n\
+count: 4 4010 1 1 0 13\n\
+call: 15 1030 1 2 0 b\n\
+weak_one: 6 1045 2 2 0 b\n\
+V2: 0 0 1 1 0 fff1";
 
 const STRINGS: &[u8] = b"\0main\0x\0end";
 
@@ -101,32 +83,17 @@ const SYMBOLS: &[u8] = b"\x01\0\0\0\x12\xfb\x07\0\x10\x20\x40\0\0\0\0\x80\x2a\0\
     \x06\0\0\0\xa0\0\xf1\xff\x05\0\0\0\0\0\0\0\0\0\0\0\0\0\0\0\
     \x01\0\0\0\x12\xfb\x07\0\x10\x20\x40\0\0\0\0\x80\x2a\0\0\0\0\0\0";
 
-const ROWS: [Row; 2] = [
-    (
-        b"main",
-        0x0100_0000_0000_002a,
-        (
-            0x8000_0000_0040_2010,
-            STB_GLOBAL,
-            STT_FUNC,
-            STV_PROTECTED,
-            7,
-        ),
-    ),
-    (
-        b"x",
-        0,
-        (5, STB_GNU_UNIQUE, STT_NOTYPE, STV_DEFAULT, SHN_ABS),
-    ),
-];
+const ROWS: &str = "\
+main: 10000000000002a 8000000000402010 1 2 3 7\n\
+x: 0 5 a 0 0 fff1";
 
 #[test]
-fn reads_symbols(rt: HostRuntime) -> Result<(), SymFault> {
+fn reads_symbols(rt: HostRuntime) -> Result<(), Fail> {
     let alloc = rt.alloc();
     let symbols = read_symbols(alloc, SYMBOLS, STRINGS)?;
-    assert!(rt; has_rows(symbols.as_slice(), &ROWS));
+    assert!(rt; has_rows(alloc, symbols.as_slice(), ROWS)?);
     let symbols = read_symbols(alloc, &LIBRARY_SYMBOLS, LIBRARY_STRINGS)?;
-    assert!(rt; has_rows(symbols.as_slice(), &LIBRARY));
+    assert!(rt; has_rows(alloc, symbols.as_slice(), LIBRARY)?);
     Ok(())
 }
 
@@ -134,10 +101,12 @@ fn reads_symbols(rt: HostRuntime) -> Result<(), SymFault> {
 const LONG: &[u8] = b"a_name_of_more_than_23_bytes";
 
 #[test]
-fn keeps_names_of_each_length(rt: HostRuntime) -> Result<(), AllocError> {
+fn keeps_names_of_each_length(rt: HostRuntime) -> Result<(), Fail> {
     for size in 0..=LONG.len() {
         let name = Name::copy_of(rt.alloc(), &LONG[..size])?;
-        assert!(rt; name.as_slice() == &LONG[..size], "{size}");
+        if name.as_slice() != &LONG[..size] {
+            return Err(size.into());
+        }
     }
     Ok(())
 }
@@ -153,7 +122,7 @@ const NAMES: [(u8, bool); 6] = [
 ];
 
 #[test]
-fn refuses_names_without_end(rt: HostRuntime) {
+fn refuses_names_without_end(rt: HostRuntime) -> Result<(), Fail> {
     for (at, has_end) in &NAMES {
         let mut row = [0u8; 24];
         row[0] = *at;
@@ -163,8 +132,11 @@ fn refuses_names_without_end(rt: HostRuntime) {
         } else {
             Some(SymFault::BadSymbol)
         };
-        assert!(rt; fault == wanted, "{at}");
+        if fault != wanted {
+            return Err((*at).into());
+        }
     }
+    Ok(())
 }
 
 fn symbol(alloc: Global, fields: Fields) -> Result<Symbol, AllocError> {
@@ -191,15 +163,12 @@ fn answers(symbol: &Symbol) -> [bool; 4] {
     ]
 }
 
-fn expect_answers(
-    rt: &impl Abort,
-    alloc: Global,
-    symbols: &[Fields],
-    wanted: [bool; 4],
-) -> Result<(), AllocError> {
+fn expect_answers(alloc: Global, symbols: &[Fields], wanted: [bool; 4]) -> Result<(), Fail> {
     for fields in symbols {
         let symbol = symbol(alloc, *fields)?;
-        assert!(rt; answers(&symbol) == wanted, "{fields:?}");
+        if answers(&symbol) != wanted {
+            return Err((*fields).into());
+        }
     }
     Ok(())
 }
@@ -246,10 +215,10 @@ const CANONICAL: [Fields; 3] = [
 ];
 
 #[test]
-fn knows_definers(rt: HostRuntime) -> Result<(), AllocError> {
-    expect_answers(&rt, rt.alloc(), &ALWAYS, [true; 4])?;
-    expect_answers(&rt, rt.alloc(), &NEVER, [false; 4])?;
-    expect_answers(&rt, rt.alloc(), &CANONICAL, [false, false, false, true])
+fn knows_definers(rt: HostRuntime) -> Result<(), Fail> {
+    expect_answers(rt.alloc(), &ALWAYS, [true; 4])?;
+    expect_answers(rt.alloc(), &NEVER, [false; 4])?;
+    expect_answers(rt.alloc(), &CANONICAL, [false, false, false, true])
 }
 
 /// Sections; whether a symbol there is undefined, absolute, in a section.
@@ -263,7 +232,7 @@ const SECTIONS: [(u16, [bool; 3]); 6] = [
 ];
 
 #[test]
-fn knows_sections(rt: HostRuntime) -> Result<(), AllocError> {
+fn knows_sections(rt: HostRuntime) -> Result<(), Fail> {
     for (section, wanted) in &SECTIONS {
         let symbol = symbol(rt.alloc(), (0, STB_LOCAL, STT_TLS, STV_DEFAULT, *section))?;
         let found = [
@@ -271,7 +240,9 @@ fn knows_sections(rt: HostRuntime) -> Result<(), AllocError> {
             symbol.is_absolute(),
             symbol.is_in_section(),
         ];
-        assert!(rt; found == *wanted, "{section}");
+        if found != *wanted {
+            return Err((*section).into());
+        }
         assert!(rt; symbol.is_local() && symbol.is_tls());
     }
     Ok(())

@@ -1,6 +1,6 @@
 // Tests of pl_ver.
-use crate::cases::{numbers, parts};
-use pl_ver::{VerFault, Versions, read_versions, version_of};
+use pl_cases::{numbers, parts};
+use pl_ver::{VerFault, VersionName, Versions, read_versions, version_of};
 use std::alloc::{AllocError, Global};
 use std::test::Fail;
 
@@ -65,73 +65,103 @@ const LINKED_VERNEED: [u8; 48] = [
     0, 0, 82, 4, 0, 0, 0, 0, 4, 0, 45, 0, 0, 0, 0, 0, 0, 0,
 ];
 
-const MADE: Sections<'static> = Sections {
-    versym: &VERSYM,
-    verdef: &VERDEF,
-    defs: 3,
-    verneed: &VERNEED,
-    needs: 1,
-    strings: STRINGS,
-};
-
-const LINKED: Sections<'static> = Sections {
-    versym: &LINKED_VERSYM,
-    verdef: &LINKED_VERDEF,
-    defs: 3,
-    verneed: &LINKED_VERNEED,
-    needs: 1,
-    strings: LINKED_STRINGS,
-};
-
-/// Index, name, and whether the version is defined.
-const LINKED_NAMES: [(u16, &[u8], bool); 5] = [
-    (1, b"liba.so", true),
-    (2, b"V1", true),
-    (3, b"V2", true),
-    (5, b"B1", false),
-    (4, b"B2", false),
-];
-
-/// Whether the names of versions are these.
-fn has_names(versions: &Versions, names: &[(u16, &[u8], bool)]) -> bool {
-    for (row, (index, name, defined)) in versions.names.as_slice().iter().zip(names) {
-        if row.index != *index || row.defined != *defined || row.name.as_slice() != *name {
-            return false;
-        }
+fn made() -> Sections<'static> {
+    Sections {
+        versym: &VERSYM,
+        verdef: &VERDEF,
+        defs: 3,
+        verneed: &VERNEED,
+        needs: 1,
+        strings: STRINGS,
     }
-    versions.names.len() == names.len()
+}
+
+fn linked() -> Sections<'static> {
+    Sections {
+        versym: &LINKED_VERSYM,
+        verdef: &LINKED_VERDEF,
+        defs: 3,
+        verneed: &LINKED_VERNEED,
+        needs: 1,
+        strings: LINKED_STRINGS,
+    }
+}
+
+/// Index, 1 where the version is defined, else 0, and name.
+const LINKED_NAMES: &str = "\
+1 1: liba.so\n\
+2 1: V1\n\
+3 1: V2\n\
+5 0: B1\n\
+4 0: B2";
+
+/// Whether a name of a version is that of a line.
+fn is_name(alloc: Global, row: &VersionName, line: &str) -> Result<bool, Fail> {
+    let (wanted, name) = parts(line)?;
+    let found = [u64::from(row.index), u64::from(row.defined)];
+    Ok(
+        row.name.as_slice() == name.as_bytes()
+            && numbers(alloc, wanted)?.as_slice() == found.as_slice(),
+    )
+}
+
+/// Whether the names of versions are those of lines.
+fn has_names(alloc: Global, versions: &Versions, lines: &str) -> Result<bool, Fail> {
+    let names = versions.names.as_slice();
+    let mut count = 0usize;
+    for line in lines.lines() {
+        let Some(row) = names.get(count) else {
+            return Ok(false);
+        };
+        if !is_name(alloc, row, line)? {
+            return Ok(false);
+        }
+        count = count.saturating_add(1);
+    }
+    Ok(count == names.len())
 }
 
 #[test]
-fn reads_what_a_linker_wrote(rt: HostRuntime) -> Result<(), VerFault> {
-    let linked = read(rt.alloc(), &LINKED)?;
+fn reads_what_a_linker_wrote(rt: HostRuntime) -> Result<(), Fail> {
+    let linked = read(rt.alloc(), &linked())?;
     let index = [0, 4, 5, 0x8002, 3, 3, 2, 2, 3];
     assert!(rt; linked.index.as_slice() == index.as_slice());
-    assert!(rt; has_names(&linked, &LINKED_NAMES));
+    assert!(rt; has_names(rt.alloc(), &linked, LINKED_NAMES)?);
     Ok(())
 }
 
-/// Words of symbols, and the names of their versions in the sections that are made and in those of the linker.
-const ASKED: [(u16, Option<&[u8]>, Option<&[u8]>); 8] = [
-    (0, None, None),
-    (1, Some(b"base"), Some(b"liba.so")),
-    (2, Some(b"V1"), Some(b"V1")),
-    (0x8002, Some(b"V1"), Some(b"V1")),
-    (4, Some(b"B1"), Some(b"B2")),
-    (0x8005, Some(b"B2"), Some(b"B1")),
-    (6, None, None),
-    (0xffff, None, None),
-];
+/// Words of symbols, in hexadecimal, and the names of their versions in the sections that are made and in those of the linker, if they have any.
+const ASKED: &str = "\
+0:\n\
+1: base liba.so\n\
+2: V1 V1\n\
+8002: V1 V1\n\
+4: B1 B2\n\
+8005: B2 B1\n\
+6:\n\
+ffff:";
+
+/// Whether the word of a line has its versions.
+fn has_versions(made: &Versions, linked: &Versions, line: &str) -> Result<bool, Fail> {
+    let (word, names) = parts(line)?;
+    let word = u16::from_str_radix(word, 16)?;
+    let (of_made, of_linked) = (version_of(made, word), version_of(linked, word));
+    match names.split_once(' ') {
+        None => Ok(of_made.is_none() && of_linked.is_none()),
+        Some((first, second)) => {
+            Ok(of_made == Some(first.as_bytes()) && of_linked == Some(second.as_bytes()))
+        }
+    }
+}
 
 #[test]
-fn finds_versions(rt: HostRuntime) -> Result<(), VerFault> {
-    let alloc = rt.alloc();
-    let made = read(alloc, &MADE)?;
-    let linked = read(alloc, &LINKED)?;
-    for (word, of_made, of_linked) in &ASKED {
-        let is_made = version_of(&made, *word) == *of_made;
-        let is_linked = version_of(&linked, *word) == *of_linked;
-        assert!(rt; is_made && is_linked, "{word}");
+fn finds_versions(rt: HostRuntime) -> Result<(), Fail> {
+    let made = read(rt.alloc(), &made())?;
+    let linked = read(rt.alloc(), &linked())?;
+    for line in ASKED.lines() {
+        if !has_versions(&made, &linked, line)? {
+            return Err(line.into());
+        }
     }
     Ok(())
 }
@@ -198,43 +228,24 @@ fn edited(alloc: Global, section: &[u8], edit: &[u64]) -> Result<Vec<u8>, Fail> 
 
 /// What is read of the sections with one of them edited.
 fn answer_to(alloc: Global, section: &str, edit: &[u64]) -> Result<String, Fail> {
-    if section == "versym" {
-        let versym = edited(alloc, &VERSYM, edit)?;
-        Ok(answer(
-            alloc,
-            &Sections {
-                versym: &versym,
-                ..MADE
-            },
-        )?)
-    } else if section == "verdef" {
-        let verdef = edited(alloc, &VERDEF, edit)?;
-        Ok(answer(
-            alloc,
-            &Sections {
-                verdef: &verdef,
-                ..MADE
-            },
-        )?)
-    } else if section == "verneed" {
-        let verneed = edited(alloc, &VERNEED, edit)?;
-        Ok(answer(
-            alloc,
-            &Sections {
-                verneed: &verneed,
-                ..MADE
-            },
-        )?)
+    let whole = if section == "linked" {
+        linked()
     } else {
-        let verdef = edited(alloc, &LINKED_VERDEF, edit)?;
-        Ok(answer(
-            alloc,
-            &Sections {
-                verdef: &verdef,
-                ..LINKED
-            },
-        )?)
+        made()
+    };
+    if section == "versym" {
+        let versym = edited(alloc, whole.versym, edit)?;
+        let versym = versym.as_slice();
+        return Ok(answer(alloc, &Sections { versym, ..whole })?);
     }
+    if section == "verneed" {
+        let verneed = edited(alloc, whole.verneed, edit)?;
+        let verneed = verneed.as_slice();
+        return Ok(answer(alloc, &Sections { verneed, ..whole })?);
+    }
+    let verdef = edited(alloc, whole.verdef, edit)?;
+    let verdef = verdef.as_slice();
+    Ok(answer(alloc, &Sections { verdef, ..whole })?)
 }
 
 /// Whether the edit of a line is read as the line says.
@@ -248,7 +259,9 @@ fn is_answered(alloc: Global, line: &str) -> Result<bool, Fail> {
 #[test]
 fn refuses_by_the_first_clause(rt: HostRuntime) -> Result<(), Fail> {
     for line in EDITS.lines() {
-        assert!(rt; is_answered(rt.alloc(), line)?, "{line}");
+        if !is_answered(rt.alloc(), line)? {
+            return Err(line.into());
+        }
     }
     Ok(())
 }
@@ -277,7 +290,7 @@ fn is_cut(alloc: Global, line: &str) -> Result<bool, Fail> {
         verdef: cut(&VERDEF, *verdef),
         verneed: cut(&VERNEED, *verneed),
         strings: cut(STRINGS, *strings),
-        ..MADE
+        ..made()
     };
     Ok(answer(alloc, &sections)?.as_str() == wanted)
 }
@@ -285,7 +298,9 @@ fn is_cut(alloc: Global, line: &str) -> Result<bool, Fail> {
 #[test]
 fn refuses_sections_that_are_cut(rt: HostRuntime) -> Result<(), Fail> {
     for line in CUTS.lines() {
-        assert!(rt; is_cut(rt.alloc(), line)?, "{line}");
+        if !is_cut(rt.alloc(), line)? {
+            return Err(line.into());
+        }
     }
     Ok(())
 }
@@ -309,7 +324,7 @@ fn is_counted(alloc: Global, line: &str) -> Result<bool, Fail> {
     let sections = Sections {
         defs: *defs,
         needs: *needs,
-        ..MADE
+        ..made()
     };
     Ok(answer(alloc, &sections)?.as_str() == wanted)
 }
@@ -317,7 +332,9 @@ fn is_counted(alloc: Global, line: &str) -> Result<bool, Fail> {
 #[test]
 fn refuses_other_counts(rt: HostRuntime) -> Result<(), Fail> {
     for line in COUNTS.lines() {
-        assert!(rt; is_counted(rt.alloc(), line)?, "{line}");
+        if !is_counted(rt.alloc(), line)? {
+            return Err(line.into());
+        }
     }
     Ok(())
 }

@@ -687,15 +687,26 @@ fn outcome(alloc: Global, words: &[String]) -> Result<String, AllocError> {
     }
 }
 
+/// Whether the words of a row are the command that it says.
+fn is_read(alloc: Global, row: &str) -> Result<bool, Fail> {
+    let (words, command) = row.split_once('\t').ok_or("a row without a command")?;
+    Ok(outcome(alloc, &words_in(alloc, words)?)?.as_str() == command)
+}
+
+/// Fails at the first row of a table whose words are another command.
+fn check_table(alloc: Global, table: &str) -> Result<(), Fail> {
+    for row in table.lines() {
+        if !is_read(alloc, row)? {
+            return Err(row.into());
+        }
+    }
+    Ok(())
+}
+
 #[test]
 fn reads_the_tables(rt: HostRuntime) -> Result<(), Fail> {
-    let alloc = rt.alloc();
-    for table in &TABLES {
-        for row in table.lines() {
-            let (words, command) = row.split_once('\t').ok_or("a row without a command")?;
-            let found = outcome(alloc, &words_in(alloc, words)?)?;
-            assert!(rt; found.as_str() == command, "{row}: {found}");
-        }
+    for table in TABLES {
+        check_table(rt.alloc(), table)?;
     }
     Ok(())
 }

@@ -5,55 +5,29 @@ ghost use Rattle.indexmap.specs.IndexMap.{values};
 ghost use Rattle.pl_scope.specs.Members.{IsWalk};
 ghost use Rattle.pl_scope.specs.Scope.{IsAccepted};
 
-use crate::samples::{by_name, insert};
+use crate::samples::{by_name, insert, needs};
 use indexmap::IndexMap;
 use pl_base::Rows;
+use pl_cases::{numbers32, parts};
 use pl_init::{Reach, ReachRow, check, full_text, order, reach, right, short_text};
 use pl_object::Object;
 use pl_scope::{MAX_MEMBERS, Scope, WalkFault, walk};
 use std::alloc::{AllocError, Global};
-use std::process::Abort;
 use std::test::Fail;
 
 // Names and their recipes.
-const OBJECTS: [(&str, &str); 11] = [
-    ("q", "program\nneeds libx\nneeds libz\n"),
-    ("libx", "library\n"),
-    ("liby", "library\n"),
-    ("libz", "library\nneeds liby\nneeds libx\n"),
-    ("c", "program\nneeds libm\n"),
-    ("libm", "library\nneeds libn\nneeds libm\n"),
-    ("libn", "library\nneeds libm\nneeds libn\n"),
-    ("d", "program\nneeds libj\nneeds libk\nneeds libl\n"),
-    ("libj", "library\n"),
-    ("libk", "library\n"),
-    ("libl", "library\nneeds libj\n"),
-];
-
-// A name, the lines of its walk's order, and those of the rows.
-const ORDERS: [(&str, &str, &str); 5] = [
-    (
-        "q",
-        "init libx\ninit liby\ninit libz\ninit q\n",
-        "reach q libx via q\nreach q libz via q\nreach q liby via libz\nreach libz liby via libz\nreach libz libx via libz\n",
-    ),
-    (
-        "c",
-        "init libm\ninit libn\ninit c\n",
-        "reach c libm via c\nreach c libn via libm\nreach libm libn via libm\nreach libn libm via libn\n",
-    ),
-    (
-        "libn",
-        "init libn\ninit libm\n",
-        "reach libn libm via libn\nreach libm libn via libm\n",
-    ),
-    (
-        "d",
-        "init libj\ninit libk\ninit libl\ninit d\n",
-        "reach d libj via d\nreach d libk via d\nreach d libl via d\nreach libl libj via libl\n",
-    ),
-    ("libx", "init libx\n", ""),
-];
+const OBJECTS: &str = "\
+q: program; needs libx; needs libz\n\
+libx: library\n\
+liby: library\n\
+libz: library; needs liby; needs libx\n\
+c: program; needs libm\n\
+libm: library; needs libn; needs libm\n\
+libn: library; needs libm; needs libn\n\
+d: program; needs libj; needs libk; needs libl\n\
+libj: library\n\
+libk: library\n\
+libl: library; needs libj";
 
 fn walk_of<'a>(
     alloc: Global,
@@ -84,6 +58,39 @@ fn text_of(
     }
 }
 
+// A name, the lines of its walk's order, and those of the rows, where a bar ends each.
+const ORDERS: &str = "\
+q: init libx|init liby|init libz|init q|: reach q libx via q|reach q libz via q|reach q liby via libz|reach libz liby via libz|reach libz libx via libz|\n\
+c: init libm|init libn|init c|: reach c libm via c|reach c libn via libm|reach libm libn via libm|reach libn libm via libn|\n\
+libn: init libn|init libm|: reach libn libm via libn|reach libm libn via libm|\n\
+d: init libj|init libk|init libl|init d|: reach d libj via d|reach d libk via d|reach d libl via d|reach libl libj via libl|\n\
+libx: init libx|:";
+
+// Whether the texts of the order of a line's name are those of the line.
+fn has_texts(alloc: Global, objects: &IndexMap<String, Object>, line: &str) -> Result<bool, Fail>
+    requires { All IsAccepted (values objects.now) }
+{
+    let (name, texts) = parts(line)?;
+    let (order, rows) = parts(texts)?;
+    let short = format!(in alloc; "{order}end|")?.replace(alloc, "|", "\n")?;
+    let full = format!(in alloc; "{order}{rows}end|")?.replace(alloc, "|", "\n")?;
+    Ok(
+        text_of(alloc, name, objects, false)?.as_slice() == short.as_bytes()
+            && text_of(alloc, name, objects, true)?.as_slice() == full.as_bytes(),
+    )
+}
+
+#[test]
+fn orders_and_reaches(rt: HostRuntime) -> Result<(), Fail> {
+    let objects = by_name(rt.alloc(), OBJECTS)?;
+    for line in ORDERS.lines() {
+        if !has_texts(rt.alloc(), &objects, line)? {
+            return Err(line.into());
+        }
+    }
+    Ok(())
+}
+
 // Whether an order of a name's walk is lawful.
 fn is_lawful(
     alloc: Global,
@@ -98,17 +105,20 @@ fn is_lawful(
     Ok(check(&scope, members, &reached))
 }
 
-// Whether the rows of a table are right for a name's walk.
+// Whether rows, of three numbers each, are right for a name's walk.
 fn are_right(
     alloc: Global,
     name: &str,
     objects: &IndexMap<String, Object>,
-    table: &[(u32, u32, u32)],
+    table: &[u32],
 ) -> Result<bool, Fail>
     requires { All IsAccepted (values objects.now) }
 {
     let mut rows = Vec::new(alloc);
-    for (from, to, via) in table {
+    for row in table.chunks(3) {
+        let [from, to, via] = row else {
+            return Err("three numbers".into());
+        };
         rows.push(ReachRow {
             from: *from,
             to: *to,
@@ -122,149 +132,82 @@ fn are_right(
     Ok(right(alloc, &scope, &reached)?)
 }
 
-#[test]
-fn orders_and_reaches(rt: HostRuntime) -> Result<(), Fail> {
-    let objects = by_name(rt.alloc(), &OBJECTS)?;
-    for (name, order, rows) in ORDERS {
-        let text = text_of(rt.alloc(), name, &objects, false)?;
-        let short = format!(in rt.alloc(); "{order}end\n")?;
-        assert_eq!(rt; text.as_slice(), short.as_str().as_bytes(), "{name}");
-        let text = text_of(rt.alloc(), name, &objects, true)?;
-        let full = format!(in rt.alloc(); "{order}{rows}end\n")?;
-        assert_eq!(rt; text.as_slice(), full.as_str().as_bytes(), "{name}");
-    }
-    Ok(())
-}
+// Names, 1 where an order of its walk is lawful, and the order: of the walk of `q`, which is q, libx, libz, liby; of `c`, which is c, libm, libn, with a cycle that breaks at the earlier one; of `d`, which is d, libj, libk, libl, where libl needs libj. In the last one no two neighbours stand the wrong way round.
+const LAWFUL: &str = "\
+q 1: 1 3 2 0\n\
+q 1: 3 1 2 0\n\
+q 0: 0 1 3 2\n\
+q 0: 3 2 1 0\n\
+q 0: 1 3 2\n\
+q 0: 1 3 2 4\n\
+q 0: 1 3 2 0 0\n\
+q 0: 1 1 3 2\n\
+c 1: 1 2 0\n\
+c 0: 2 1 0\n\
+c 0: 1 0 2\n\
+d 1: 1 2 3 0\n\
+d 1: 2 1 3 0\n\
+d 1: 1 3 2 0\n\
+d 0: 3 2 1 0";
 
-// Orders of the walk of `q`, which is q, libx, libz, liby, and whether each is lawful.
-const LAWFUL: [(&[u32], bool); 8] = [
-    (&[1, 3, 2, 0], true),
-    (&[3, 1, 2, 0], true),
-    (&[0, 1, 3, 2], false),
-    (&[3, 2, 1, 0], false),
-    (&[1, 3, 2], false),
-    (&[1, 3, 2, 4], false),
-    (&[1, 3, 2, 0, 0], false),
-    (&[1, 1, 3, 2], false),
-];
-
-// Of `c`, which is c, libm, libn, with a cycle that breaks at the earlier one.
-const CYCLE: [(&[u32], bool); 3] = [(&[1, 2, 0], true), (&[2, 1, 0], false), (&[1, 0, 2], false)];
-
-// Of `d`, which is d, libj, libk, libl, where libl needs libj. In the last one no two neighbours stand the wrong way round.
-const DISTANT: [(&[u32], bool); 4] = [
-    (&[1, 2, 3, 0], true),
-    (&[2, 1, 3, 0], true),
-    (&[1, 3, 2, 0], true),
-    (&[3, 2, 1, 0], false),
-];
-
-fn expect_lawful(
-    rt: &(impl Abort + AllocGlobal),
-    name: &str,
-    cases: &[(&[u32], bool)],
-) -> Result<(), Fail> {
-    let objects = by_name(rt.alloc(), &OBJECTS)?;
-    for (members, wanted) in cases {
-        let lawful = is_lawful(rt.alloc(), name, &objects, members)?;
-        assert_eq!(rt; lawful, *wanted, "{name} {members:?}");
-    }
-    Ok(())
+// Whether the order of a line is as lawful as it says.
+fn is_as_lawful(alloc: Global, objects: &IndexMap<String, Object>, line: &str) -> Result<bool, Fail>
+    requires { All IsAccepted (values objects.now) }
+{
+    let (head, order) = parts(line)?;
+    let (name, wanted) = head.split_once(' ').ok_or("a name")?;
+    Ok(is_lawful(alloc, name, objects, &numbers32(alloc, order)?)? == (wanted == "1"))
 }
 
 #[test]
 fn checks_orders(rt: HostRuntime) -> Result<(), Fail> {
-    expect_lawful(&rt, "q", &LAWFUL)?;
-    expect_lawful(&rt, "c", &CYCLE)?;
-    expect_lawful(&rt, "d", &DISTANT)
-}
-
-// Rows of the walk of `q`, and whether they are right.
-const ROWS: [(&[(u32, u32, u32)], bool); 9] = [
-    (
-        &[(0, 1, 0), (0, 2, 0), (0, 3, 2), (2, 3, 2), (2, 1, 2)],
-        true,
-    ),
-    (
-        &[(0, 2, 0), (0, 3, 2), (0, 1, 2), (2, 1, 2), (2, 3, 2)],
-        true,
-    ),
-    // Not by ascending `from`.
-    (
-        &[(2, 3, 2), (2, 1, 2), (0, 1, 0), (0, 2, 0), (0, 3, 2)],
-        false,
-    ),
-    // No member's number.
-    (
-        &[
-            (0, 1, 0),
-            (0, 2, 0),
-            (0, 3, 2),
-            (2, 3, 2),
-            (2, 1, 2),
-            (4, 1, 4),
-        ],
-        false,
-    ),
-    // One member twice.
-    (
-        &[
-            (0, 1, 0),
-            (0, 2, 0),
-            (0, 3, 2),
-            (0, 1, 2),
-            (2, 3, 2),
-            (2, 1, 2),
-        ],
-        false,
-    ),
-    // By one that is found later.
-    (
-        &[(0, 1, 0), (0, 3, 2), (0, 2, 0), (2, 3, 2), (2, 1, 2)],
-        false,
-    ),
-    // By one that does not need it.
-    (
-        &[(0, 1, 0), (0, 2, 0), (0, 3, 1), (2, 3, 2), (2, 1, 2)],
-        false,
-    ),
-    // One that is reached is left out.
-    (&[(0, 1, 0), (0, 2, 0), (2, 3, 2), (2, 1, 2)], false),
-    // So is all of a member.
-    (&[(0, 1, 0), (0, 2, 0), (0, 3, 2)], false),
-];
-
-// Rows of the walk of `libn`, which is libn, libm and needs itself: with and without a row that leads to its `from`.
-const OWN: [(&[(u32, u32, u32)], bool); 2] = [
-    (&[(0, 1, 0), (1, 0, 1)], true),
-    (&[(0, 1, 0), (0, 0, 1), (1, 0, 1)], false),
-];
-
-fn expect_right(
-    rt: &(impl Abort + AllocGlobal),
-    name: &str,
-    cases: &[(&[(u32, u32, u32)], bool)],
-) -> Result<(), Fail> {
-    let objects = by_name(rt.alloc(), &OBJECTS)?;
-    for (rows, wanted) in cases {
-        let answer = are_right(rt.alloc(), name, &objects, rows)?;
-        assert_eq!(rt; answer, *wanted, "{name} {rows:?}");
+    let objects = by_name(rt.alloc(), OBJECTS)?;
+    for line in LAWFUL.lines() {
+        if !is_as_lawful(rt.alloc(), &objects, line)? {
+            return Err(line.into());
+        }
     }
     Ok(())
 }
 
+// Names, 1 where rows of its walk are right, and the rows, of three numbers each. Of the walk of `q` the third is not by ascending `from`; then: no member's number, one member twice, by one that is found later, by one that does not need it, one that is reached left out, all of a member left out. Of the walk of `libn`, which is libn, libm and needs itself: with and without a row that leads to its `from`.
+const ROWS: &str = "\
+q 1: 0 1 0  0 2 0  0 3 2  2 3 2  2 1 2\n\
+q 1: 0 2 0  0 3 2  0 1 2  2 1 2  2 3 2\n\
+q 0: 2 3 2  2 1 2  0 1 0  0 2 0  0 3 2\n\
+q 0: 0 1 0  0 2 0  0 3 2  2 3 2  2 1 2  4 1 4\n\
+q 0: 0 1 0  0 2 0  0 3 2  0 1 2  2 3 2  2 1 2\n\
+q 0: 0 1 0  0 3 2  0 2 0  2 3 2  2 1 2\n\
+q 0: 0 1 0  0 2 0  0 3 1  2 3 2  2 1 2\n\
+q 0: 0 1 0  0 2 0  2 3 2  2 1 2\n\
+q 0: 0 1 0  0 2 0  0 3 2\n\
+libn 1: 0 1 0  1 0 1\n\
+libn 0: 0 1 0  0 0 1  1 0 1";
+
+// Whether the rows of a line are as right as it says.
+fn are_as_right(alloc: Global, objects: &IndexMap<String, Object>, line: &str) -> Result<bool, Fail>
+    requires { All IsAccepted (values objects.now) }
+{
+    let (head, rows) = parts(line)?;
+    let (name, wanted) = head.split_once(' ').ok_or("a name")?;
+    Ok(are_right(alloc, name, objects, &numbers32(alloc, rows)?)? == (wanted == "1"))
+}
+
 #[test]
 fn sees_whether_rows_are_right(rt: HostRuntime) -> Result<(), Fail> {
-    expect_right(&rt, "q", &ROWS)?;
-    expect_right(&rt, "libn", &OWN)
+    let objects = by_name(rt.alloc(), OBJECTS)?;
+    for line in ROWS.lines() {
+        if !are_as_right(rt.alloc(), &objects, line)? {
+            return Err(line.into());
+        }
+    }
+    Ok(())
 }
 
 // A library that needs `MAX_MEMBERS` libraries, of which it is one.
 fn wide_recipe(alloc: Global) -> Result<String, AllocError> {
     let mut recipe = String::from_str(alloc, "library\n")?;
-    for member in 0..MAX_MEMBERS {
-        recipe.push_str(format!(in alloc; "needs lib{member}\n")?.as_str())?;
-    }
+    recipe.push_str(needs(alloc, MAX_MEMBERS)?.as_str())?;
     Ok(recipe)
 }
 

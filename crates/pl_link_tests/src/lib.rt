@@ -1,8 +1,10 @@
-//! Tests of recipes, acceptance, look-up, orders of initialisation, values and images by the public calls of their crates.
+//! Tests of recipes, acceptance, look-up, orders of initialisation, values, images and fixed programs by the public calls of their crates.
 #![tactic(auto)]
 
 #[cfg(test)]
 mod build;
+#[cfg(test)]
+mod fixing;
 #[cfg(test)]
 mod image;
 #[cfg(test)]

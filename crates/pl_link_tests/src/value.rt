@@ -43,10 +43,7 @@ fn meanings_and_word(
     second: &str,
     reloc: u32,
 ) -> Result<(Rows<Meaning>, Option<Word>), Fail> {
-    let objects = vec![in alloc;
-        object_of(alloc, first, &[])?,
-        object_of(alloc, second, &[])?,
-    ]?;
+    let objects = vec![in alloc; object_of(alloc, first)?, object_of(alloc, second)?]?;
     let scope = scope_of(alloc, &objects)?;
     let rows = vec![in alloc; 0, 0x30_0000_0000]?;
     let places = Places::new(Rows::from_vec(rows));
@@ -57,26 +54,37 @@ fn meanings_and_word(
     Ok((meanings, word_of(&scope, &places, 0, reloc)?))
 }
 
-const MEANINGS: [(u64, u64, Word); 4] = [
-    (0x50_0000, 8, Word::Put(0xf)),
-    (0x50_0008, 8, Word::Put(4)),
-    (0x50_0010, 8, Word::Put(0)),
-    (0x50_0018, 0, Word::Nothing),
+const MEANINGS: [Meaning; 4] = [
+    Meaning {
+        member: 0,
+        start: 0x50_0000,
+        size: 8,
+        word: Word::Put(0xf),
+    },
+    Meaning {
+        member: 0,
+        start: 0x50_0008,
+        size: 8,
+        word: Word::Put(4),
+    },
+    Meaning {
+        member: 0,
+        start: 0x50_0010,
+        size: 8,
+        word: Word::Put(0),
+    },
+    Meaning {
+        member: 0,
+        start: 0x50_0018,
+        size: 0,
+        word: Word::Nothing,
+    },
 ];
 
 #[test]
 fn gives_words(rt: HostRuntime) -> Result<(), Fail> {
     let (meanings, last) = meanings_and_word(rt.alloc(), WORDS, NUMBER, 3)?;
-    assert_eq!(rt; meanings.len(), MEANINGS.len());
-    for (meaning, (start, size, word)) in meanings.as_slice().iter().zip(MEANINGS) {
-        let wanted = Meaning {
-            member: 0,
-            start,
-            size,
-            word,
-        };
-        assert_eq!(rt; *meaning, wanted);
-    }
+    assert!(rt; meanings.as_slice() == MEANINGS.as_slice());
     assert_eq!(rt; last, Some(Word::Nothing));
     Ok(())
 }

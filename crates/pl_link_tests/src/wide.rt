@@ -3,7 +3,7 @@ ghost use Rattle.std.specs.Prelude.{IsSome};
 ghost use Rattle.pl_scope.specs.Walking.{wants};
 ghost use Rattle.pl_scope.specs.Scope.{objects, IsAccepted, IsSymbol};
 
-use crate::samples::accepted;
+use crate::samples::{accepted, needs};
 use crate::scope::is_symbol;
 use pl_base::Text;
 use pl_build::build;
@@ -20,13 +20,6 @@ const SYMBOLS: u32 = 0x4000;
 
 const LIBRARIES: u32 = 255;
 
-fn needs(alloc: Global, recipe: &mut String) -> Result<(), AllocError> {
-    for library in 0..LIBRARIES {
-        recipe.push_str(format!(in alloc; "needs lib{library}\n")?.as_str())?;
-    }
-    Ok(())
-}
-
 // A weak reference, and the relocation of its word.
 fn reference(alloc: Global, symbol: u32) -> Result<String, AllocError> {
     let place = symbol.wrapping_mul(8);
@@ -35,7 +28,7 @@ fn reference(alloc: Global, symbol: u32) -> Result<String, AllocError> {
 
 fn program(alloc: Global) -> Result<String, AllocError> {
     let mut recipe = String::from_str(alloc, "program\nhash gnu\ndata 20000\n")?;
-    needs(alloc, &mut recipe)?;
+    recipe.push_str(needs(alloc, LIBRARIES as usize)?.as_str())?;
     for symbol in 0..SYMBOLS {
         recipe.push_str(reference(alloc, symbol)?.as_str())?;
     }

@@ -17,8 +17,9 @@ use std::test::Fail;
 // A region without any address.
 const NOWHERE: Range = Range { start: 0, end: 0 };
 
-/// The file of a recipe.
+/// The file of a recipe, whose lines semicolons part.
 pub fn file_of(alloc: Global, recipe: &str) -> Result<Vec<u8>, Fail> {
+    let recipe = recipe.replace(alloc, "; ", "\n")?;
     if recipe.len() > 0x1000 {
         return Err("a short recipe".into());
     }
@@ -41,7 +42,7 @@ pub fn object_of(alloc: Global, file: &[u8]) -> Result<Object, Fail>
 }
 
 /// The byte that stands everywhere where there is no image.
-pub const FILLED: u8 = 0xa7;
+const FILLED: u8 = 0xa7;
 
 fn byte_of(image: Option<&Image<'_>>, address: u64) -> u8 {
     match image {

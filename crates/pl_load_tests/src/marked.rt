@@ -3,19 +3,19 @@ ghost use Rattle.std.specs.Prelude.{◌<◌, length, IfSome};
 ghost use Rattle.pl_form.specs.Library.{IsFirmLibrary};
 ghost use Rattle.pl_form.specs.Program.{IsFirmProgram};
 
-use crate::firm::{FILLED, file_of, fills_of, object_of};
+use crate::firm::{file_of, fills_of, object_of};
 use pl_base::{word16, word64};
+use pl_cases::{bytes_of, number, parts};
 use pl_form::{File, FileFault, Marked, Version, form_library, form_program, read_file, undo};
 use pl_object::{Object, Refusal};
 use std::alloc::{AllocError, Global};
-use std::process::Abort;
 use std::test::Fail;
 
-const ONE: &str = "program\ndata 10\nword 8 7\nrel relative 0 - 8\n";
+const ONE: &str = "program; data 10; word 8 7; rel relative 0 - 8";
 
-pub const LIBA: &str = "library\ndata 8\nword 0 1111\ndef f global func 0 8\n";
+pub const LIBA: &str = "library; data 8; word 0 1111; def f global func 0 8";
 
-pub const P: &str = "program\nneeds liba\ndata 8\nref f global func\nrel globdat 0 f 0\n";
+pub const P: &str = "program; needs liba; data 8; ref f global func; rel globdat 0 f 0";
 
 const SLOT: u64 = 0x30_0000_0000;
 
@@ -49,6 +49,7 @@ pub fn marked_library(alloc: Global, file: &[u8], slot: u64, stamp: u32) -> Resu
     library_form(alloc, file, &object, slot, stamp, Version::Two)
 }
 
+/// The form of a program without other files.
 fn program_form(
     alloc: Global,
     file: &[u8],
@@ -79,62 +80,21 @@ fn read(alloc: Global, file: &[u8]) -> Result<File, FileFault> {
     read_file(alloc, file)
 }
 
-/// What is read of a file, in one number: the clause that refuses it, or one of those below.
-const MARKED: u32 = 1000;
-
-const BAD: u32 = 1001;
-
-const PLAIN: u32 = 1002;
-
-const MEMORY: u32 = 1003;
-
-fn answer(file: &Result<File, FileFault>) -> u32 {
-    match file {
-        Ok(File::Marked(_)) => MARKED,
-        Ok(File::Plain(_)) => PLAIN,
-        Err(FileFault::BadMark) => BAD,
-        Err(FileFault::Refused(Refusal::Clause { number, .. })) => *number,
-        Err(FileFault::Refused(Refusal::NoMemory)) => MEMORY,
-    }
-}
-
-// A pattern that stands in a form, how far behind its start, and the bytes that are put there.
-type Change = (&'static [u8], usize, &'static [u8]);
-
-// A recipe, the changes of its form, what is read of it then, and the stamp that is read.
-type Row = (&'static str, &'static [Change], u32, u32);
+/// The stamp that is read of a form, `-` where the mark is bad; its recipe; and, where it is changed, how far behind the start of a pattern that stands in it bytes are put, the pattern and the bytes, all in hexadecimal. In turn: forms as they are; the original's length; the stamp, past 32 bits and within; the word at a program's place; the name of the undo section, where a prelink tag is left; the first byte of the undo section, and its slot.
+const ROWS: &str = "\
+0: program; data 10; word 8 7; rel relative 0 - 8: 0:\n\
+3e9: library; data 8; word 0 1111; def f global func 0 8: 0:\n\
+0: program; needs liba; data 8; ref f global func; rel globdat 0 f 0: 0:\n\
+-: library; data 8; word 0 1111; def f global func 0 8: 20: 50 4c 55 4e 44 4f 30/ff ff ff ff ff ff ff ff\n\
+-: library; data 8; word 0 1111; def f global func 0 8: 8: f5 fd ff 6f 00 00 00 00/00 00 00 00 01 00 00 00\n\
+4d: library; data 8; word 0 1111; def f global func 0 8: 8: f5 fd ff 6f 00 00 00 00/4d 00 00 00 00 00 00 00\n\
+0: program; needs liba; data 8; ref f global func; rel globdat 0 f 0: 0: a7 a7 a7 a7 a7 a7 a7 a7/01 02\n\
+-: program; needs liba; data 8; ref f global func; rel globdat 0 f 0: 1: 2e 67 6e 75 2e 70 72 65 6c 69 6e 6b 5f 75 6e 64 6f/47\n\
+-: library; data 8; word 0 1111; def f global func 0 8: 0: 50 4c 55 4e 44 4f 30/51\n\
+-: library; data 8; word 0 1111; def f global func 0 8: 8: 50 4c 55 4e 44 4f 30/01\n\
+-: program; needs liba; data 8; ref f global func; rel globdat 0 f 0: 8: 50 4c 55 4e 44 4f 30/02";
 
 const UNDO: &[u8] = b"PLUNDO0";
-
-const UNDO_NAME: &[u8] = b".gnu.prelink_undo";
-
-const PRELINKED: &[u8] = &[0xf5, 0xfd, 0xff, 0x6f, 0, 0, 0, 0];
-
-const WORD: &[u8] = &[
-    FILLED, FILLED, FILLED, FILLED, FILLED, FILLED, FILLED, FILLED,
-];
-
-const ROWS: [Row; 11] = [
-    (ONE, &[], MARKED, 0),
-    (LIBA, &[], MARKED, STAMP),
-    (P, &[], MARKED, 0),
-    // the original's length; the stamp, past 32 bits and within
-    (
-        LIBA,
-        &[(UNDO, 32, b"\xff\xff\xff\xff\xff\xff\xff\xff")],
-        BAD,
-        0,
-    ),
-    (LIBA, &[(PRELINKED, 8, b"\0\0\0\0\x01\0\0\0")], BAD, 0),
-    (LIBA, &[(PRELINKED, 8, b"\x4d\0\0\0\0\0\0\0")], MARKED, 77),
-    // the word at a program's place; the name of the undo section, where a prelink tag is left
-    (P, &[(WORD, 0, b"\x01\x02")], MARKED, 0),
-    (P, &[(UNDO_NAME, 1, b"G")], BAD, 0),
-    // the first byte of the undo section, and its slot
-    (LIBA, &[(UNDO, 0, b"Q")], BAD, 0),
-    (LIBA, &[(UNDO, 8, b"\x01")], BAD, 0),
-    (P, &[(UNDO, 8, b"\x02")], BAD, 0),
-];
 
 /// Where a pattern stands first.
 pub fn find(bytes: &[u8], pattern: &[u8]) -> Option<usize>
@@ -155,52 +115,88 @@ fn write(file: &mut [u8], at: usize, new: &[u8]) {
     }
 }
 
-fn change(form: &mut [u8], (pattern, offset, new): Change) {
-    if let Some(at) = find(form, pattern) {
-        write(form, at.saturating_add(offset), new);
+/// Puts bytes so far behind the start of a pattern, where there is one.
+fn change(alloc: Global, form: &mut [u8], offset: u64, change: &str) -> Result<(), Fail> {
+    let Some((pattern, new)) = change.split_once('/') else {
+        return Ok(());
+    };
+    if let Some(at) = find(form, &bytes_of(alloc, pattern)?) {
+        write(
+            form,
+            at.saturating_add(offset as usize),
+            &bytes_of(alloc, new)?,
+        );
+    }
+    Ok(())
+}
+
+/// Whether a form is read as a form of the file, with this stamp and of this version.
+fn gives_back(
+    alloc: Global,
+    marked: &Marked,
+    file: &[u8],
+    stamp: u64,
+    version: Version,
+) -> Result<bool, Fail> {
+    let original = undo(alloc, marked)?;
+    let is_same = u64::from(marked.stamp) == stamp && marked.version == version;
+    Ok(is_same && original.as_slice() == file)
+}
+
+/// Whether what is read of a form is what a word says: a stamp, with the file as its original, or a bad mark where it is `-`.
+fn is_read(
+    alloc: Global,
+    wanted: &str,
+    read: &Result<File, FileFault>,
+    file: &[u8],
+    version: Version,
+) -> Result<bool, Fail> {
+    match read {
+        Ok(File::Marked(marked)) => {
+            Ok(wanted != "-" && gives_back(alloc, marked, file, number(wanted)?, version)?)
+        }
+        Err(FileFault::BadMark) => Ok(wanted == "-"),
+        _ => Ok(false),
     }
 }
 
-/// Compares what is read of a changed form, and the original that it gives back.
-fn check(
-    rt: &(impl Abort + AllocGlobal),
-    (recipe, changes, wanted, stamp): Row,
-    version: Version,
-) -> Result<(), Fail> {
-    let alloc: Global = rt.alloc();
+/// Whether the changed form of a line is read as it says.
+fn is_read_as_stated(alloc: Global, line: &str, version: Version) -> Result<bool, Fail> {
+    let (wanted, row) = parts(line)?;
+    let (recipe, row) = parts(row)?;
+    let (offset, changed) = parts(row)?;
     let file = file_of(alloc, recipe)?;
     let mut form = form_of(alloc, &file, version)?;
-    for row in changes {
-        change(form.as_mut_slice(), *row);
-    }
-    let result = read(alloc, &form);
-    assert_eq!(rt; answer(&result), wanted);
-    if let Ok(File::Marked(marked)) = &result {
-        assert_eq!(rt; marked.stamp, stamp);
-        assert!(rt; marked.version == version);
-        let original = undo(alloc, marked)?;
-        assert!(rt; original.as_slice() == file.as_slice());
-    }
-    Ok(())
+    change(alloc, form.as_mut_slice(), number(offset)?, changed)?;
+    is_read(alloc, wanted, &read(alloc, &form), &file, version)
 }
 
 #[test]
 fn false_marks(rt: HostRuntime) -> Result<(), Fail> {
-    for row in ROWS {
-        check(&rt, row, Version::One)?;
-        check(&rt, row, Version::Two)?;
+    for line in ROWS.lines() {
+        if !is_read_as_stated(rt.alloc(), line, Version::One)?
+            || !is_read_as_stated(rt.alloc(), line, Version::Two)?
+        {
+            return Err(line.into());
+        }
     }
     Ok(())
 }
 
+/// Whether the form of a library without its last byte is refused by clause 5.
+fn is_refused_when_cut(alloc: Global, version: Version) -> Result<bool, Fail> {
+    let form = form_of(alloc, &file_of(alloc, LIBA)?, version)?;
+    let cut = &form[..form.len().saturating_sub(1)];
+    match read(alloc, cut) {
+        Err(FileFault::Refused(Refusal::Clause { number, .. })) => Ok(number == 5),
+        _ => Ok(false),
+    }
+}
+
 #[test]
 fn without_last_byte(rt: HostRuntime) -> Result<(), Fail> {
-    let file = file_of(rt.alloc(), LIBA)?;
-    for version in [Version::One, Version::Two] {
-        let form = form_of(rt.alloc(), &file, version)?;
-        let cut = &form[..form.len().saturating_sub(1)];
-        assert_eq!(rt; answer(&read(rt.alloc(), cut)), 5);
-    }
+    assert!(rt; is_refused_when_cut(rt.alloc(), Version::One)?);
+    assert!(rt; is_refused_when_cut(rt.alloc(), Version::Two)?);
     Ok(())
 }
 
@@ -235,39 +231,43 @@ fn differences(file: &[u8], other: &[u8]) -> Option<usize> {
     )
 }
 
-#[test]
-fn last_kept_byte(rt: HostRuntime) -> Result<(), Fail> {
-    let file = file_of(rt.alloc(), ONE)?;
-    let mut first = form_of(rt.alloc(), &file, Version::One)?;
-    let Some(end) = undo_end(&first) else {
-        return Err("an undo section".into());
-    };
-    write(first.as_mut_slice(), end.saturating_sub(1), b"\x01");
-    let Ok(File::Marked(marked)) = read(rt.alloc(), &first) else {
+/// The form of a program whose last kept byte is another one.
+fn spoiled(alloc: Global, file: &[u8], version: Version) -> Result<Vec<u8>, Fail> {
+    let mut form = form_of(alloc, file, version)?;
+    let end = undo_end(&form).ok_or("an undo section")?;
+    write(form.as_mut_slice(), end.saturating_sub(1), b"\x01");
+    Ok(form)
+}
+
+/// In how many bytes the original of the spoiled form of version 1 is another one; version 2 has a digest, and refuses it.
+fn spoiled_bytes(alloc: Global) -> Result<Option<usize>, Fail> {
+    let file = file_of(alloc, ONE)?;
+    let Ok(File::Marked(marked)) = read(alloc, &spoiled(alloc, &file, Version::One)?) else {
         return Err("a form".into());
     };
-    assert_eq!(rt; differences(&file, marked.original.as_slice()), Some(1));
-    let mut second = form_of(rt.alloc(), &file, Version::Two)?;
-    let Some(end) = undo_end(&second) else {
-        return Err("an undo section".into());
-    };
-    write(second.as_mut_slice(), end.saturating_sub(1), b"\x01");
-    assert_eq!(rt; answer(&read(rt.alloc(), &second)), BAD);
+    Ok(differences(&file, marked.original.as_slice()))
+}
+
+#[test]
+fn last_kept_byte(rt: HostRuntime) -> Result<(), Fail> {
+    let alloc = rt.alloc();
+    assert_eq!(rt; spoiled_bytes(alloc)?, Some(1));
+    let second = spoiled(alloc, &file_of(alloc, ONE)?, Version::Two)?;
+    assert!(rt; matches!(read(alloc, &second), Err(FileFault::BadMark)));
     Ok(())
 }
 
-const RECIPES: [&str; 10] = [
-    ONE,
-    LIBA,
-    P,
-    "library\ndata 10\nword 0 5\ndef h global func 0 8\nrel globdat 8 h 0\n",
-    "program\nneeds libk\ndata 18\nref h global func at 10\nrel globdat 0 h 0\nrel jumpslot 8 h 0\n",
-    "library\nversion V1\nversion V2\ndata 10\nword 0 1\nword 8 2\ndef foo@V1 global func 0 8\ndef foo@@V2 global func 8 8\n",
-    "program\nneeds libv\ndata 18\nref foo@V1 global func from libv\nref foo@V2 global func from libv\nref foo global func\nrel globdat 0 foo@V1 0\nrel globdat 8 foo@V2 0\nrel globdat 10 foo 0\n",
-    "library\nusual\nhash both\ndata 18\nbss 20\ntls 0 0 8 40\ndef a global tls 4 4\nrel dtpmod 0 a 0\nrel dtpoff 8 a 0\nrel tpoff 10 a 0\n",
-    "library\ndata 210\nrel packed 0 - 10\nrel packed 8 - 18\nrel packed 200 - 0\n",
-    "program\nusual\nneeds libe\nbss 10\ndef x global object 0 10\nrel copy 0 x 0\n",
-];
+const RECIPES: &str = "\
+program; data 10; word 8 7; rel relative 0 - 8\n\
+library; data 8; word 0 1111; def f global func 0 8\n\
+program; needs liba; data 8; ref f global func; rel globdat 0 f 0\n\
+library; data 10; word 0 5; def h global func 0 8; rel globdat 8 h 0\n\
+program; needs libk; data 18; ref h global func at 10; rel globdat 0 h 0; rel jumpslot 8 h 0\n\
+library; version V1; version V2; data 10; word 0 1; word 8 2; def foo@V1 global func 0 8; def foo@@V2 global func 8 8\n\
+program; needs libv; data 18; ref foo@V1 global func from libv; ref foo@V2 global func from libv; ref foo global func; rel globdat 0 foo@V1 0; rel globdat 8 foo@V2 0; rel globdat 10 foo 0\n\
+library; usual; hash both; data 18; bss 20; tls 0 0 8 40; def a global tls 4 4; rel dtpmod 0 a 0; rel dtpoff 8 a 0; rel tpoff 10 a 0\n\
+library; data 210; rel packed 0 - 10; rel packed 8 - 18; rel packed 200 - 0\n\
+program; usual; needs libe; bss 10; def x global object 0 10; rel copy 0 x 0";
 
 /// The form with one byte changed.
 fn changed(alloc: Global, form: &[u8], number: usize) -> Result<Vec<u8>, AllocError> {
@@ -294,10 +294,12 @@ fn keeps_its_original(alloc: Global, file: &[u8], form: &[u8]) -> Result<bool, F
 
 #[test]
 fn a_thousand_changes(rt: HostRuntime) -> Result<(), Fail> {
-    for recipe in RECIPES {
+    for recipe in RECIPES.lines() {
         let file = file_of(rt.alloc(), recipe)?;
         let form = form_of(rt.alloc(), &file, Version::Two)?;
-        assert!(rt; keeps_its_original(rt.alloc(), &file, &form)?, "{recipe}");
+        if !keeps_its_original(rt.alloc(), &file, &form)? {
+            return Err(recipe.into());
+        }
     }
     Ok(())
 }

@@ -10,6 +10,7 @@ ghost use Rattle.pl_value.specs.Ordinary.{ArePlaced};
 
 use crate::firm::{file_of, object_of};
 use pl_base::{Rows, Text, end, push32, word32};
+use pl_cases::number;
 use pl_elf::constants::ADDRESS_LIMIT;
 use pl_image::Parts;
 use pl_io::NoMemory;
@@ -27,6 +28,7 @@ use std::test::Fail;
 pub const STAMP: u32 = 1000;
 
 /// A file of a set.
+#[derive(Drop)]
 pub struct Sample {
     pub name: &'static str,
     pub recipe: &'static str,
@@ -34,8 +36,33 @@ pub struct Sample {
     /// The address that its address 0 gets, 0 for a program.
     pub place: u64,
 
-    /// The SHA-256 of its form in version 1 and in version 2; empty where the other builder has no form.
-    pub digests: [&'static str; 2],
+    /// The SHA-256 of its form in version 1 and in version 2, `-` where the other builder has no form.
+    pub first: &'static str,
+    pub second: &'static str,
+}
+
+/// The file of a line of a set.
+fn sample_of(line: &'static str) -> Result<Sample, Fail> {
+    let (head, recipe) = line.split_once(": ").ok_or("a recipe")?;
+    let (name, head) = head.split_once(' ').ok_or("a name")?;
+    let (place, digests) = head.split_once(' ').ok_or("a place")?;
+    let (first, second) = digests.split_once(' ').ok_or("two digests")?;
+    Ok(Sample {
+        name,
+        recipe,
+        place: number(place)?,
+        first,
+        second,
+    })
+}
+
+/// The files of a set.
+pub fn samples_of(alloc: Global, set: &'static str) -> Result<Vec<Sample>, Fail> {
+    let mut samples = Vec::new(alloc);
+    for line in set.lines() {
+        samples.push(sample_of(line)?)?;
+    }
+    Ok(samples)
 }
 
 /// A file that was built and accepted, and has no fault of forms.

@@ -2,6 +2,5 @@ use Rattle.std.proofs.lemmas.List.Elements.{All-push, All-same}
 use Rattle.pl_scope.specs.Scope.{IsAccepted}
 use Rattle.pl_link_tests.proofs.scope.objects_of.Goals as goal
 
--- src/scope.rt:156:5
-pub loop-recipe-preserved : goal.loop-recipe-preserved
-loop-recipe-preserved c = All-same IsAccepted _ _ c.in_ok-push.ensures.items (All-push IsAccepted c.loop-recipe.objects.items c.in_ok-object_of.field-0 c.loop-recipe.invariant c.in_ok-object_of.ensures)
+pub loop-sample-preserved : goal.loop-sample-preserved
+loop-sample-preserved c = All-same IsAccepted _ _ c.in_ok-push.ensures.items (All-push IsAccepted c.loop-sample.objects.items c.in_ok-object_of.field-0 c.loop-sample.invariant c.in_ok-object_of.ensures)

@@ -1,5 +1,5 @@
 // A run of `--demo`.
-use crate::running::written;
+use crate::running::ran;
 use pl_folder::MemoryFolder;
 use std::test::Fail;
 
@@ -12,7 +12,7 @@ const OF_ONE: &[u8] =
 fn set_of_one(rt: HostRuntime) -> Result<(), Fail> {
     let alloc = rt.alloc();
     let mut folder = MemoryFolder::new(alloc, &[], Vec::from_slice(alloc, &[0])?, 1)?;
-    assert!(rt; written(alloc, &mut folder, &["--demo", "1"])?.as_slice() == OF_ONE);
-    assert!(rt; written(alloc, &mut folder, &["--demo", "1"])?.as_slice() == OF_ONE);
+    assert!(rt; ran(alloc, &mut folder, "--demo 1")?.1.as_slice() == OF_ONE);
+    assert!(rt; ran(alloc, &mut folder, "--demo 1")?.1.as_slice() == OF_ONE);
     Ok(())
 }

@@ -1,39 +1,18 @@
 // The longest form.
-ghost use Rattle.std.specs.Prelude.{IfOk};
-ghost use Rattle.pl_form.specs.Faults.{IsFirm};
 ghost use Rattle.pl_form.specs.Program.{IsFirmProgram};
 
-use crate::running::built;
-use pl_elf::Range;
-use pl_form::{FormFault, Version, check_form, form_program};
+use crate::firm::{file_of, object_of};
+use pl_form::{FormFault, Version, form_program};
 use pl_lists::ConflictRow;
-use pl_object::{ORIGINAL, Object, accept};
+use pl_object::Object;
 use std::alloc::{AllocError, Global};
 use std::test::Fail;
 
 // Without a conflict the form of this program has 6,640 bytes, and with an even number of them 24 more for each.
-const RECIPE: &str = "program\ndata 8\n";
+const RECIPE: &str = "program; data 8";
 
 // How many conflicts a form of 256 MiB has.
 const FITTING: u64 = 11_184_534;
-
-// A region without any address.
-const NOWHERE: Range = Range { start: 0, end: 0 };
-
-/// The object of a file that has a form.
-fn object_of(alloc: Global, file: &[u8]) -> Result<Object, Fail>
-    ensures { IfOk result (IsFirm file.now) }
-{
-    if file.len() > ORIGINAL {
-        return Err("a short file".into());
-    }
-    let object = accept(alloc, file)?;
-    if object.kind.is_static() {
-        return Err("a dynamic file".into());
-    }
-    check_form(&object, NOWHERE)?;
-    Ok(object)
-}
 
 /// So many conflicts at ascending addresses.
 fn conflicts(alloc: Global, count: u64) -> Result<Vec<ConflictRow>, AllocError> {
@@ -67,7 +46,7 @@ fn length_with(
 #[test]
 fn longest_form(rt: HostRuntime) -> Result<(), Fail> {
     let alloc = rt.alloc();
-    let file = built(alloc, RECIPE)?;
+    let file = file_of(alloc, RECIPE)?;
     let object = object_of(alloc, &file)?;
     if object.kind.is_library() {
         return Err("a program".into());
