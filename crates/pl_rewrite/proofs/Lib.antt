@@ -59,6 +59,7 @@ pub mod StaleRowLaws
 pub mod OutcomeLaws
 pub mod RowOutcomeLaws
 pub mod NewRowLaws
+pub mod NewFileLaws
 pub mod VerifyRowLaws
 pub mod VerifyFileLaws
 pub mod VerifyingLaws

@@ -31,7 +31,7 @@ use Rattle.law_sound.specs.Rule as sound
 use Rattle.law_sound.specs.Rule.{Member, mark_at, objects, of_walk, original_at, stamp_of}
 use Rattle.pl_rewrite.specs.Changes as changes
 use Rattle.pl_rewrite.specs.Rows.{IsFileMeant, IsFirmAt, IsWalkRow, firms_of, number_at, unless_none, walk_of}
-use Rattle.pl_rewrite.specs.Sources.{members, versioned}
+use Rattle.pl_rewrite.specs.Sources.{members}
 use Rattle.pl_rewrite.specs.declared.numbers.Numbered.{Numbered}
 use Rattle.pl_rewrite.proofs.CandidateRowLaws.{candidate_flag, member_flag, table_with, walk_row, walk_told}
 use Rattle.pl_rewrite.proofs.FirmRowLaws.{IsRowOf, firms_named, firms_zip, named_of, row_of}
@@ -139,21 +139,6 @@ module _ (n : Numbered) (links : List Link) (causes : List (Option Skip)) (a : A
   -- the file that is meant of its row
   pub meant_is : (row : ℕ) (x : Taken) (file : Option (List ℕ)) → is_candidate_row (table_with n links causes) row ≡ true → slice_get n.files.now row ≡ Some x → IsFileMeant n row Two file → file ≡ changes.prelinked files a.region run x.name
   meant_is row x file candidate at meant = meant (all_in Two (firms_of n row)) (in_versions Two (firms_of n row)) (begins_in Two (firms_of n row)) ∙ sym (planned_is row x candidate at)
-
-  -- the members are in version 2
-  two_members : (rows : List ℕ) (rs : List Firm) → AllZip (IsFirmAt n) rows rs → members (all_in Two rs) ≡ members rs
-  two_members [] [] zip = refl
-  two_members [] (r ∷ rs) zip = absurd zip
-  two_members (row ∷ rows) [] zip = absurd zip
-  two_members (row ∷ rows) (r ∷ rs) zip =
-      let f : IsRowOf n row r = row_of n row r zip.0 in
-      let same : (versioned (number_of Two) r).member ≡ r.member = subst (λ (y : Firm). (versioned (number_of Two) y).member ≡ y.member) f.is refl in
-      ap (λ (m : Member). m ∷ members (all_in Two rs)) same ∙ ap (λ (ms : List Member). r.member ∷ ms) (two_members rows rs zip.1)
-
-  pub planned_two : (row : ℕ) (x : Taken) → is_candidate_row (table_with n links causes) row ≡ true → slice_get n.files.now row ≡ Some x → prelinked (members (firms_of n row)) ≡ changes.prelinked files a.region run x.name
-  planned_two row x candidate at =
-      let walk : IsWalkRow n row = walk_row n links causes a is row candidate in
-      sym (planned_is row x candidate at ∙ ap prelinked (two_members (walk_of n row) (firms_of n row) (firms_zip n row walk.rows)))
 
   -- the slot and the stamp of a library
   pub library_numbers : (row : ℕ) (x : Taken) (o : Object) → is_candidate_row (table_with n links causes) row ≡ true → slice_get n.files.now row ≡ Some x → object_by x.entry ≡ Some o → is_library o.kind ≡ true

@@ -21,8 +21,8 @@ use Rattle.pl_scope.specs.declared.index.Entry.{Entry}
 use Rattle.pl_rewrite.specs.Contents.{IsHeldRow, IsProgramRow, IsWork}
 use Rattle.pl_rewrite.specs.Flags.{flagged}
 use Rattle.pl_rewrite.specs.Outcomes.{AreHeldFlags, AreProgramRows, HaveWords, IsStaleColumn, held_by, is_held, is_held_before, is_library_at, is_library_taken, is_stale, is_stale_library, is_stale_program, is_used}
-use Rattle.pl_rewrite.specs.Rows.{IsFirmAt, IsLibraryRow, IsNumbered, IsWalkRow, firms_of, is_library_row, walk_of}
-use Rattle.pl_rewrite.specs.RowWords.{AreLinks, AreRowWords, AreRowWordsAt, FindsRow, IsLinkAt, IsNeeded, is_asked, is_needed}
+use Rattle.pl_rewrite.specs.Rows.{IsFirmAt, IsLibraryRow, IsNumbered, IsWalkRow, firms_of, is_library_row, of_firm, walk_of}
+use Rattle.pl_rewrite.specs.RowWords.{AreLinks, AreRowWords, AreRowWordsAt, FindsRow, IsLinkAt, IsNeeded, is_asked, is_needed, is_set}
 use Rattle.pl_rewrite.specs.Sources.{AreSources}
 use Rattle.pl_rewrite.specs.declared.numbers.Numbered.{Numbered}
 use Rattle.pl_rewrite.specs.declared.program.Work.{Work}
@@ -57,7 +57,7 @@ program_finds n row l link other =
     subst (λ (os : List Object). FindAll os l.found) (firm_objects n row) found
   where
     firm_kind : (n : Numbered) (row : ℕ) (first : IsFirst n row) → is_library_row n row ≡ is_library first.firm.object.kind
-    firm_kind n row first = rw first.at refl
+    firm_kind n row first = ap (of_firm false (λ (r : Firm). is_library r.object.kind)) first.at
 
 -- ---- whether a row has a library
 
@@ -105,7 +105,7 @@ held_there n stale row m r lt program at =
 pub asked_held : (n : Numbered) (stale held : List Bool) (row : ℕ) → AreHeldFlags n stale held → row < length n.files.now → is_asked held row ≡ is_held n stale row
 asked_held n stale held row are lt =
     let there = slice_get_at held row (omega (arith, lt, are.count)) in
-    rw there.1 (are.each row there.0 there.1)
+    ap is_set there.1 ∙ are.each row there.0 there.1
 
 pub needed_is : (n : Numbered) (asked : Needed) (stale : List Bool) (row : ℕ) → asked.made.now ≡ stale → AreHeldFlags n stale asked.held.now → row < length n.files.now → is_needed asked row ≡ is_used n stale row
 needed_is n asked stale row made held lt =

@@ -1,8 +1,8 @@
 -- The outcome of each row is what a run makes of its file.
 use Rattle.std.proofs.Common.{◌≡◌, ℕ, ◌<◌, Bool, true, false, List, [], ◌∷◌, length, Option, Some, None, Ok, sym, ap, subst, ◌∙◌, arith, inl, inr}
-use Rattle.std.specs.Prelude.{◌&&◌, drop, not, slice_get, if◌then◌else◌}
+use Rattle.std.specs.Prelude.{◌&&◌, not, slice_get, if◌then◌else◌}
 use Rattle.std.specs.List.{AllZip}
-use Rattle.std.specs.Option.{option_and_then, option_map}
+use Rattle.std.specs.Option.{option_map}
 use Rattle.std.proofs.lemmas.Bool.{cases_Bool}
 use Rattle.std.proofs.lemmas.List.{length-map}
 use Rattle.std.proofs.lemmas.Option.{same_Some, slice_get-map, slice_get_within}
@@ -22,14 +22,12 @@ use Rattle.pl_cone.proofs.RowLaws.{IsRow, row_is}
 use Rattle.pl_cone.proofs.TakenLaws.{marked_read}
 use Rattle.pl_cone.proofs.WalkLaws.{library_entry}
 use Rattle.pl_conflict.specs.Format.{format}
-use Rattle.pl_conflict.specs.Own.{own_words}
-use Rattle.pl_conflict.specs.Prelinked.{Firm, are_set, list_of, objects_of, prelinked, slots_of, stored}
+use Rattle.pl_conflict.specs.Prelinked.{Firm, are_set}
 use Rattle.pl_elf.specs.Kinds.{is_library}
 use Rattle.pl_elf.specs.declared.range.Range.{Range}
 use Rattle.pl_form.specs.Files.{marked_in, original_in, original_or_file}
 use Rattle.pl_form.specs.declared.file.Marked.{Marked}
 use Rattle.pl_form.specs.declared.version.Version.TheVariants.{Two}
-use Rattle.pl_lists.specs.declared.list_row.ListRow.{ListRow}
 use Rattle.pl_object.specs.declared.object.Object.{Object}
 use Rattle.pl_journal.specs.declared.change.Change.{Change}
 use Rattle.pl_journal.specs.declared.change.Change.TheVariants.{Put}
@@ -39,13 +37,11 @@ use Rattle.law_sound.specs.Rule.{objects}
 use Rattle.pl_rewrite.specs.Changes as changes
 use Rattle.pl_rewrite.specs.Changes.{put}
 use Rattle.pl_rewrite.specs.Contents.{conflicts_in}
-use Rattle.pl_rewrite.specs.Forms.{file_with}
-use Rattle.pl_rewrite.specs.Libraries.{IsNew, firm_of, storable_library}
+use Rattle.pl_rewrite.specs.Libraries.{IsNew, storable_library}
 use Rattle.pl_rewrite.specs.Outcomes.{IsMadeAt, IsOutcome, KeepsFile, MayBe, kept_by, made_by, made_in, made_original, made_program, made_with, put_original, too_large}
 use Rattle.pl_rewrite.specs.Outcomes as spec
 use Rattle.pl_rewrite.specs.Reports as reports
-use Rattle.pl_rewrite.specs.Rows.{IsWalkRow, firm_by, firms_of, is_library_row, of_firm}
-use Rattle.pl_rewrite.specs.Sources.{AreSources, members}
+use Rattle.pl_rewrite.specs.Rows.{IsFirmAt, IsWalkRow, firm_by, firms_of, is_library_row, number_at, of_firm}
 use Rattle.pl_rewrite.specs.declared.finishing.Made.{Made}
 use Rattle.pl_rewrite.specs.declared.numbers.Numbered.{Numbered}
 use Rattle.pl_rewrite.specs.declared.outcome.NewLibrary.{NewLibrary}
@@ -57,14 +53,14 @@ use Rattle.pl_rewrite.specs.declared.report.RowState.TheVariants as states
 use Rattle.pl_rewrite.proofs.CandidateRowLaws.{table_with, walk_row}
 use Rattle.pl_rewrite.proofs.FirmRowLaws.{IsRowOf, row_of}
 use Rattle.pl_rewrite.proofs.LibraryAtLaws.{object_known}
+use Rattle.pl_rewrite.proofs.NewFileLaws.{library_in_version}
 use Rattle.pl_rewrite.proofs.NewLaws.{library_state, program_state}
 use Rattle.pl_rewrite.proofs.NewLibraryLaws.{IsFirst, first_is, library_firm}
 use Rattle.pl_rewrite.proofs.OutcomeLaws.{by_cause, current_is, large_is, new_is, no_cause, skipped_is}
 use Rattle.pl_rewrite.proofs.RowByRowLaws.{zip_each}
-use Rattle.pl_rewrite.proofs.PlannedFileLaws.{library_numbers, meant_is, planned_two}
+use Rattle.pl_rewrite.proofs.PlannedFileLaws.{library_numbers, meant_is}
 use Rattle.pl_rewrite.proofs.StaleRowLaws.{column, stale_candidate, stale_flag}
-use Rattle.pl_rewrite.proofs.WholeLaws.{library_made}
-use Rattle.pl_rewrite.proofs.NewRowLaws.{library_firm_is, library_may, library_object, made_firm}
+use Rattle.pl_rewrite.proofs.NewRowLaws.{library_firm_is, library_may, library_object}
 
 entry_of : (region : Range) (ts : List Taken) (x : Taken) → IsRow region ts x → x.entry ≡ entry_in x.bytes
 unfolding taken_of
@@ -84,6 +80,27 @@ put_mark x m name old own original mark named before told copied =
     let same : m.original ≡ original_or_file x.bytes (marked_in x.bytes) = ap (original_or_file x.bytes) mark in
     ap (λ (bs : List ℕ). put (Some bs) name (Some original)) before
     ∙ (ap (λ (k : List ℕ). put (Some x.bytes) k (Some original)) named ∙ ap (λ (bs : List ℕ). put (Some x.bytes) x.name (Some bs)) (copied ∙ (told ∙ same)))
+
+-- ---- what is reported of a planned file
+
+program_told : (files : sound.Files) (region : Range) (run : plans.RunPlan) (name bytes file : List ℕ) (o : Object) → files name ≡ Some bytes → objects (format skip_causes) files name ≡ Ok o → is_library o.kind ≡ false → Some file ≡ changes.prelinked files region run name
+    → states.Program false (conflicts_in file) ≡ reports.state_in name false (marked_in file)
+unfolding changes.prelinked
+program_told files region run name bytes file o at there other new = program_state files (changes.numbers files region run) name bytes file o at there other new
+
+library_reported : (files : sound.Files) (region : Range) (run : plans.RunPlan) (name bytes file : List ℕ) → files name ≡ Some bytes → is_library_entry (entry_in bytes) ≡ true → Some file ≡ changes.prelinked files region run name
+    → states.Library false ((changes.numbers files region run).slot name) ((changes.numbers files region run).stamp name) ≡ reports.state_in name false (marked_in file)
+unfolding changes.prelinked
+library_reported files region run name bytes file at library new = library_state files (changes.numbers files region run) name bytes file at library new
+
+same_state : (slot place stamp time : ℕ) → slot ≡ place → stamp ≡ time → states.Library false slot stamp ≡ states.Library false place time
+same_state slot place stamp time first second = ap (λ (s : ℕ). states.Library false s stamp) first ∙ ap (λ (s : ℕ). states.Library false place s) second
+
+-- the object of a row's member is its file's
+row_object : (n : Numbered) (row : ℕ) (x : Taken) (r : Firm) → slice_get n.files.now row ≡ Some x → IsFirmAt n row r → object_by x.entry ≡ Some r.object
+row_object n row x r at is =
+    let f : IsRowOf n row r = row_of n row r is in
+    ap (λ (y : Taken). object_by y.entry) (same_Some x f.taken (sym at ∙ f.at)) ∙ f.object
 
 abbrev make : Option Change → RowState → Bool → Made
 make change state given = record { change = change; state = state; given = given }
@@ -115,60 +132,52 @@ module _ (n : Numbered) (links : List Link) (causes : List (Option Skip)) (a : A
   large_made : (row : ℕ) (x : Taken) → slice_get n.files.now row ≡ Some x → spec.is_stale stale row ≡ true → None ≡ changes.prelinked files a.region run x.name → made_original x (too_large x) ≡ meant x
   large_made row x at on none = sym (large_is files a.region run x.name x.bytes (known row x at).file (named_stale row x at on) none)
 
+  -- one that has the file that is planned
+  new_made : (row : ℕ) (x : Taken) (file : List ℕ) (state : RowState) → slice_get n.files.now row ≡ Some x → spec.is_stale stale row ≡ true → Some file ≡ changes.prelinked files a.region run x.name → state ≡ reports.state_in x.name false (marked_in file)
+      → make (put (Some x.bytes) x.name (Some file)) state true ≡ meant x
+  new_made row x file state at on new told =
+      ap (λ (s : RowState). make (put (Some x.bytes) x.name (Some file)) s true) told ∙ sym (new_is files a.region run x.name x.bytes (known row x at).file file (named_stale row x at on) new)
+
   program_made : (row : ℕ) (x : Taken) (made : NewProgram) → slice_get n.files.now row ≡ Some x → spec.is_stale stale row ≡ true → is_library_row n row ≡ false → made.conflicts ≡ conflicts_in made.file.items → Some made.file.items ≡ changes.prelinked files a.region run x.name
       → made_program x made ≡ meant x
-  unfolding changes.prelinked
   program_made row x made at on other rows new =
       let walk : IsWalkRow n row = walk_row n links causes a is row (candidate row on) in
       let first : IsFirst n row = first_is n row walk in
-      let f : IsRowOf n row first.firm = row_of n row first.firm first.at in
-      let same : f.taken ≡ x = same_Some f.taken x (sym f.at ∙ at) in
-      let there : object_by x.entry ≡ Some first.firm.object = ap (λ (y : Taken). object_by y.entry) (sym same) ∙ f.object in
+      let there : object_by x.entry ≡ Some first.firm.object = row_object n row x first.firm at first.at in
       let object : objects (format skip_causes) files x.name ≡ Ok first.firm.object = (known row x at).object ∙ object_known x.name x.entry first.firm.object there in
       let kind : is_library first.firm.object.kind ≡ false = sym (ap (of_firm false (λ (r : Firm). is_library r.object.kind)) first.at) ∙ other in
       let state : states.Program false made.conflicts ≡ reports.state_in x.name false (marked_in made.file.items) =
-      ap (λ (count : ℕ). states.Program false count) rows ∙ program_state files (changes.numbers files a.region run) x.name x.bytes made.file.items first.firm.object (known row x at).file object kind new in
-      ap (λ (s : RowState). make (put (Some x.bytes) x.name (Some made.file.items)) s true) state
-      ∙ sym (new_is files a.region run x.name x.bytes (known row x at).file made.file.items (named_stale row x at on) new)
+      ap (λ (count : ℕ). states.Program false count) rows ∙ program_told files a.region run x.name x.bytes made.file.items first.firm.object (known row x at).file object kind new in
+      new_made row x made.file.items (states.Program false made.conflicts) at on new state
 
   -- the file of a new library is the one that is planned
-
   library_file_is : (row : ℕ) (x : Taken) (parts : NewLibrary) → slice_get n.files.now row ≡ Some x → spec.is_stale stale row ≡ true → is_library_row n row ≡ true → are_set (firms_of n row) ≡ true → IsNew n row parts
       → storable_library x parts Two ≡ changes.prelinked files a.region run x.name
   library_file_is row x parts at on library set new =
-      let walk : IsWalkRow n row = walk_row n links causes a is row (candidate row on) in
-      let first : IsFirst n row = first_is n row walk in
-      let r : Firm = first.firm in
-      let rs : List Firm = first.others in
-      let same : new.firm ≡ r = same_Some new.firm r (sym new.at ∙ first.at) in
-      let list : parts.list ≡ list_of rs = new.list ∙ ap (λ (ms : List Firm). list_of (drop 1 ms)) first.is in
-      let words : parts.words ≡ own_words (objects_of (r ∷ rs)) (slots_of (r ∷ rs)) = new.words ∙ ap (λ (ms : List Firm). own_words (objects_of ms) (slots_of ms)) first.is in
-      let file : stored (Some (file_with (firm_of x parts Two new.firm.object) parts.list parts.words)) ≡ stored (Some (file_with r (list_of rs) (own_words (objects_of (r ∷ rs)) (slots_of (r ∷ rs))))) =
-      ap (λ (m : Firm). stored (Some (file_with m parts.list parts.words))) (made_firm n row x parts at new ∙ same)
-      ∙ (ap (λ (ls : List ListRow). stored (Some (file_with r ls parts.words))) list ∙ ap (λ (ws : List (Option ℕ)). stored (Some (file_with r (list_of rs) ws))) words) in
-      let kind : is_library r.object.kind ≡ true = library_firm n row r first.at library in
-      let whole : stored (Some (file_with r (list_of rs) (own_words (objects_of (r ∷ rs)) (slots_of (r ∷ rs))))) ≡ prelinked (members (r ∷ rs)) =
-      library_made r rs (subst AreSources first.is walk.sources) kind (subst (λ (ms : List Firm). are_set ms ≡ true) first.is set) in
-      ap (option_and_then (λ (o : Object). stored (Some (file_with (firm_of x parts Two o) parts.list parts.words)))) (library_object n row x parts at new)
-      ∙ (file ∙ (whole ∙ (ap (λ (ms : List Firm). prelinked (members ms)) (sym first.is) ∙ planned_two n links causes a p is plan places stamps row x (candidate row on) at)))
+      meant_is n links causes a p is plan places stamps row x (storable_library x parts Two) (candidate row on) at (library_in_version n row x parts Two (walk_row n links causes a is row (candidate row on)) library set at new)
+
+  -- its numbers are the planned ones
+  library_told : (row : ℕ) (x : Taken) (parts : NewLibrary) (o : Object) → slice_get n.files.now row ≡ Some x → spec.is_stale stale row ≡ true → object_by x.entry ≡ Some o → is_library o.kind ≡ true → parts.slot ≡ number_at n.places.now row → parts.stamp ≡ number_at n.stamps.now row
+      → states.Library false parts.slot parts.stamp ≡ states.Library false ((changes.numbers files a.region run).slot x.name) ((changes.numbers files a.region run).stamp x.name)
+  library_told row x parts o at on there kind slot stamp =
+      let numbers = library_numbers n links causes a p is plan places stamps row x o (candidate row on) at there kind in
+      same_state parts.slot ((changes.numbers files a.region run).slot x.name) parts.stamp ((changes.numbers files a.region run).stamp x.name) (slot ∙ numbers.0) (stamp ∙ numbers.1)
+
+  library_entry_is : (row : ℕ) (x : Taken) (o : Object) → slice_get n.files.now row ≡ Some x → object_by x.entry ≡ Some o → is_library o.kind ≡ true → is_library_entry (entry_in x.bytes) ≡ true
+  library_entry_is row x o at there kind = ap is_library_entry (sym (entry_of a.region n.files.now x (known row x at))) ∙ (library_entry x.entry o there ∙ kind)
 
   library_made_with : (row : ℕ) (x : Taken) (parts : NewLibrary) (file : Option (List ℕ)) → slice_get n.files.now row ≡ Some x → spec.is_stale stale row ≡ true → is_library_row n row ≡ true → IsNew n row parts → file ≡ changes.prelinked files a.region run x.name → made_with x parts file ≡ meant x
-  unfolding changes.prelinked
   library_made_with row x parts None at on library new none = large_made row x at on none
   library_made_with row x parts (Some file) at on library new some =
+      let there : object_by x.entry ≡ Some new.firm.object = library_object n row x parts at new in
       let kind : is_library new.firm.object.kind ≡ true = library_firm n row new.firm new.at library in
-      let numbers = library_numbers n links causes a p is plan places stamps row x new.firm.object (candidate row on) at (library_object n row x parts at new) kind in
-      let firm : firm_by n row x new.firm.object ≡ new.firm = library_firm_is n row x parts at new in
-      let slot : parts.slot ≡ (changes.numbers files a.region run).slot x.name = new.slot ∙ (sym (ap (λ (r : Firm). r.member.slot) firm) ∙ numbers.0) in
-      let stamp : parts.stamp ≡ (changes.numbers files a.region run).stamp x.name = new.stamp ∙ (sym (ap (λ (r : Firm). r.member.stamp) firm) ∙ numbers.1) in
-      let row_known : IsRow a.region n.files.now x = known row x at in
-      let entry : is_library_entry (entry_in x.bytes) ≡ true = ap is_library_entry (sym (entry_of a.region n.files.now x row_known)) ∙ (library_entry x.entry new.firm.object (library_object n row x parts at new) ∙ kind) in
+      let firm : new.firm ≡ firm_by n row x new.firm.object = sym (library_firm_is n row x parts at new) in
+      let slot : parts.slot ≡ number_at n.places.now row = new.slot ∙ ap (λ (r : Firm). r.member.slot) firm in
+      let stamp : parts.stamp ≡ number_at n.stamps.now row = new.stamp ∙ ap (λ (r : Firm). r.member.stamp) firm in
       let state : states.Library false parts.slot parts.stamp ≡ reports.state_in x.name false (marked_in file) =
-      ap (λ (s : ℕ). states.Library false s parts.stamp) slot
-      ∙ (ap (λ (s : ℕ). states.Library false ((changes.numbers files a.region run).slot x.name) s) stamp
-      ∙ library_state files (changes.numbers files a.region run) x.name x.bytes file row_known.file entry some) in
-      ap (λ (s : RowState). make (put (Some x.bytes) x.name (Some file)) s true) state
-      ∙ sym (new_is files a.region run x.name x.bytes row_known.file file (named_stale row x at on) some)
+      library_told row x parts new.firm.object at on there kind slot stamp
+      ∙ library_reported files a.region run x.name x.bytes file (known row x at).file (library_entry_is row x new.firm.object at there kind) some in
+      new_made row x file (states.Library false parts.slot parts.stamp) at on some state
 
   pub stale_outcome : (row : ℕ) (x : Taken) (o : RowOutcome) → slice_get n.files.now row ≡ Some x → spec.is_stale stale row ≡ true → IsMadeAt n row o → IsOutcome files a.region run x o
   stale_outcome row x (outcomes.Unchanged state) at on made = absurd made

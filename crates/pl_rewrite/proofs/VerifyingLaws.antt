@@ -1,9 +1,8 @@
 -- What verifying makes of a row is the file that is meant of it.
 use Rattle.std.proofs.Common.{◌≡◌, ℕ, ◌<◌, ◌≤◌, Bool, true, false, List, [], ◌∷◌, length, map, get_or, Option, Some, None, refl, sym, ap, subst, ◌∙◌, arith}
-use Rattle.std.specs.Prelude.{drop, is_some, slice_get, if◌then◌else◌}
-use Rattle.std.specs.Option.{option_and_then}
+use Rattle.std.specs.Prelude.{is_some, slice_get, if◌then◌else◌}
 use Rattle.std.proofs.lemmas.Bool.{false≢true}
-use Rattle.std.proofs.lemmas.Option.{none-some, same_Some}
+use Rattle.std.proofs.lemmas.Option.{none-some}
 use Rattle.pl_cone.specs.Candidates as candidates
 use Rattle.pl_cone.specs.Links.{IsLinkOf}
 use Rattle.pl_cone.specs.Skipped.{skip_causes}
@@ -14,9 +13,9 @@ use Rattle.pl_cone.specs.declared.taken.Taken.{Taken}
 use Rattle.pl_cone.proofs.NamedFileLaws.{found}
 use Rattle.pl_cone.proofs.RowLaws.{IsRow, found_at, row_is}
 use Rattle.pl_cone.proofs.TakenLaws.{marked_read}
-use Rattle.pl_conflict.specs.Format.{format, number_of}
-use Rattle.pl_conflict.specs.Own.{FindAll, own_words}
-use Rattle.pl_conflict.specs.Prelinked.{Firm, are_set, list_of, objects_of, prelinked, slots_of, stored}
+use Rattle.pl_conflict.specs.Format.{format}
+use Rattle.pl_conflict.specs.Own.{FindAll}
+use Rattle.pl_conflict.specs.Prelinked.{Firm}
 use Rattle.pl_conflict.proofs.MemberLaws.{HasOwn}
 use Rattle.pl_elf.specs.Kinds.{is_library, is_static}
 use Rattle.pl_elf.specs.declared.kind.Kind.{Kind}
@@ -24,28 +23,20 @@ use Rattle.pl_elf.specs.declared.kind.Kind.TheVariants.{Library, Program, Static
 use Rattle.pl_elf.specs.declared.range.Range.{Range}
 use Rattle.pl_form.specs.declared.file.Marked.{Marked}
 use Rattle.pl_form.specs.declared.version.Version.{Version}
-use Rattle.pl_lists.specs.declared.list_row.ListRow.{ListRow}
-use Rattle.pl_object.specs.declared.object.Object.{Object}
 use Rattle.pl_scope.specs.Scope.{objects}
 use Rattle.pl_scope.specs.Walk.{Walked}
 use Rattle.pl_scope.specs.declared.index.Entry.{Entry}
 use Rattle.law_sound.specs.Rule as sound
-use Rattle.pl_rewrite.specs.Forms.{file_with}
-use Rattle.pl_rewrite.specs.Libraries.{IsNew, firm_of, storable_library}
-use Rattle.pl_rewrite.specs.Rows.{IsFileMeant, IsFirmAt, IsNumbered, IsWalkRow, firms_of, is_library_row, walk_of}
+use Rattle.pl_rewrite.specs.Rows.{IsNumbered, IsWalkRow, firms_of, is_library_row, of_firm, walk_of}
 use Rattle.pl_rewrite.specs.RowWords.{IsLinkAt}
-use Rattle.pl_rewrite.specs.Sources.{AreSources, AreVersionsOf, BeginsIn, members, versioned}
+use Rattle.pl_rewrite.specs.Sources.{AreSources}
 use Rattle.pl_rewrite.specs.Verify.{IsMeantOrNone, are_marked, is_same, is_verified, prelinked_in, slot_borne, stamp_borne, verified_original}
 use Rattle.pl_rewrite.specs.declared.numbers.Numbered.{Numbered}
-use Rattle.pl_rewrite.specs.declared.outcome.NewLibrary.{NewLibrary}
 use Rattle.pl_rewrite.proofs.FirmLaws.{own_all}
 use Rattle.pl_rewrite.proofs.FirmRowLaws.{firms_named, named_of}
-use Rattle.pl_rewrite.proofs.NewLibraryLaws.{IsFirst, first_is, library_firm}
-use Rattle.pl_rewrite.proofs.NewRowLaws.{library_object, made_firm}
+use Rattle.pl_rewrite.proofs.NewLibraryLaws.{IsFirst, first_is}
 use Rattle.pl_rewrite.proofs.VerifyFileLaws.{borne_meant, marked_walk, refused_none}
 use Rattle.pl_rewrite.proofs.VerifyLaws.{compared, not_marked, original_none, original_read, original_some}
-use Rattle.pl_rewrite.proofs.VersionLaws.{firms_in_two, lists_versions, objects_versions, set_versions, slots_versions, sources_versions}
-use Rattle.pl_rewrite.proofs.WholeLaws.{library_made}
 
 entry_of : (region : Range) (ts : List Taken) (x : Taken) → IsRow region ts x → x.entry ≡ entry_in x.bytes
 unfolding taken_of
@@ -69,7 +60,7 @@ kind_first n row walk =
     ap candidates.kind_of (sym (firms_named n row)) ∙ ap (λ (rs : List Firm). candidates.kind_of (map named_of rs)) first.is
 
 kind_row : (n : Numbered) (row : ℕ) → (walk : IsWalkRow n row) → is_library_row n row ≡ is_library (first_is n row walk).firm.object.kind
-kind_row n row walk = rw (first_is n row walk).at refl
+kind_row n row walk = ap (of_firm false (λ (r : Firm). is_library r.object.kind)) (first_is n row walk).at
 
 pub library_link_at : (n : Numbered) (row : ℕ) (own : Walked) (l : Link) → IsWalkRow n row → is_library_row n row ≡ true → own ≡ walked_by n.files.now (walk_of n row) → IsLinkOf n.index.now own l → IsLinkAt n row l
 library_link_at n row own l walk library same by = record {
@@ -86,33 +77,6 @@ program_link_at n row own l made walk other same by found none =
       walk = walk;
       by = as_program (candidates.kind_of (walked_by n.files.now (walk_of n row))) n.files.now n.index.now (walk_of n row) made (ap is_library (kind_first n row walk) ∙ (sym (kind_row n row walk) ∙ other)) (ap is_static (kind_first n row walk) ∙ has.firm.dynamic) all none;
     }
-
--- ---- the file of a library in a version
-
-in_version_of : (n : Numbered) (row : ℕ) (x : Taken) (parts : NewLibrary) (version : Version) (r : Firm) (rs ss : List Firm) → IsWalkRow n row → firms_of n row ≡ r ∷ rs → IsFirmAt n row r → is_library r.object.kind ≡ true → are_set (firms_of n row) ≡ true → (at : slice_get n.files.now row ≡ Some x) → (new : IsNew n row parts)
-    → AreVersionsOf (firms_of n row) ss → BeginsIn version ss → storable_library x parts version ≡ prelinked (members ss)
-in_version_of n row x parts version r rs [] walk is there library set at new are begins = absurd (subst (λ (ms : List Firm). AreVersionsOf ms []) is are)
-in_version_of n row x parts version r rs (s ∷ ss) walk is there library set at new are begins =
-    let zip : AreVersionsOf (r ∷ rs) (s ∷ ss) = subst (λ (ms : List Firm). AreVersionsOf ms (s ∷ ss)) is are in
-    let same : new.firm ≡ r = same_Some new.firm r (sym new.at ∙ there) in
-    let number : zip.0.0 ≡ number_of version = sym (ap (λ (y : Firm). y.member.version) zip.0.2) ∙ begins in
-    let firm : firm_of x parts version new.firm.object ≡ s = ap (versioned (number_of version)) (made_firm n row x parts at new ∙ same) ∙ (ap (λ (k : ℕ). versioned k r) (sym number) ∙ sym zip.0.2) in
-    let list : parts.list ≡ list_of ss = new.list ∙ (ap (λ (ms : List Firm). list_of (drop 1 ms)) is ∙ sym (lists_versions rs ss zip.1)) in
-    let words : parts.words ≡ own_words (objects_of (s ∷ ss)) (slots_of (s ∷ ss)) =
-    new.words ∙ (ap (λ (ms : List Firm). own_words (objects_of ms) (slots_of ms)) is
-    ∙ (ap (λ (os : List Object). own_words os (slots_of (r ∷ rs))) (sym (objects_versions (r ∷ rs) (s ∷ ss) zip)) ∙ ap (own_words (objects_of (s ∷ ss))) (sym (slots_versions (r ∷ rs) (s ∷ ss) zip)))) in
-    let file : stored (Some (file_with (firm_of x parts version new.firm.object) parts.list parts.words)) ≡ stored (Some (file_with s (list_of ss) (own_words (objects_of (s ∷ ss)) (slots_of (s ∷ ss))))) =
-    ap (λ (m : Firm). stored (Some (file_with m parts.list parts.words))) firm
-    ∙ (ap (λ (ls : List ListRow). stored (Some (file_with s ls parts.words))) list ∙ ap (λ (ws : List (Option ℕ)). stored (Some (file_with s (list_of ss) ws))) words) in
-    let kind : is_library s.object.kind ≡ true = ap (λ (y : Firm). is_library y.object.kind) zip.0.2 ∙ library in
-    let whole : are_set (s ∷ ss) ≡ true = set_versions (firms_of n row) (s ∷ ss) are (firms_in_two n row walk) ∙ set in
-    ap (option_and_then (λ (o : Object). stored (Some (file_with (firm_of x parts version o) parts.list parts.words)))) (library_object n row x parts at new)
-    ∙ (file ∙ library_made s ss (sources_versions (firms_of n row) (s ∷ ss) are walk.sources) kind whole)
-
-pub library_in_version : (n : Numbered) (row : ℕ) (x : Taken) (parts : NewLibrary) (version : Version) → IsWalkRow n row → is_library_row n row ≡ true → are_set (firms_of n row) ≡ true → slice_get n.files.now row ≡ Some x → IsNew n row parts → IsFileMeant n row version (storable_library x parts version)
-library_in_version n row x parts version walk library set at new = λ ss are begins.
-    let first : IsFirst n row = first_is n row walk in
-    in_version_of n row x parts version first.firm first.others ss walk first.is first.at (library_firm n row first.firm first.at library) set at new are begins
 
 -- ---- the file of a row, by what its walk is
 

@@ -5,7 +5,7 @@ use Rattle.pl_rewrite.proofs.DigestLaws.{numbered_read, read_item}
 use Rattle.pl_rewrite.proofs.MadeRowLaws.{none_meant}
 use Rattle.pl_rewrite.proofs.NewRowLaws.{library_may}
 use Rattle.pl_rewrite.proofs.RowTestLaws.{file_at}
-use Rattle.pl_rewrite.proofs.VerifyingLaws.{library_in_version}
+use Rattle.pl_rewrite.proofs.NewFileLaws.{library_in_version}
 use Rattle.pl_rewrite.proofs.verifying.library_meant.Goals as goal
 
 pub returns-in_default : goal.returns-in_default
