@@ -27,17 +27,17 @@ member_parts t parts o slot stamp first second n row place time =
 form_again : (t : Taken) (parts : NewLibrary) (o : Object) (version : Version) → HasFormWith (firm_of t parts Two o) parts.list parts.words → HasFormWith (firm_of t parts version o) parts.list parts.words
 form_again t parts o version has = record { firm = has.firm; even = has.even; list = has.list; words = has.words }
 
-pub library_row : (n : Numbered) (row : ℕ) (x : Taken) (parts : NewLibrary) → slice_get n.files.now row ≡ Some x → (new : IsNew n row parts) → IsRowOf n row new.firm
-library_row n row x parts at new = row_of n row new.firm new.at
+new_row : (n : Numbered) (row : ℕ) (x : Taken) (parts : NewLibrary) → slice_get n.files.now row ≡ Some x → (new : IsNew n row parts) → IsRowOf n row new.firm
+new_row n row x parts at new = row_of n row new.firm new.at
 
-pub same_file : (n : Numbered) (row : ℕ) (x : Taken) (parts : NewLibrary) → (at : slice_get n.files.now row ≡ Some x) → (new : IsNew n row parts) → (library_row n row x parts at new).taken ≡ x
-same_file n row x parts at new = same_Some (library_row n row x parts at new).taken x (sym (library_row n row x parts at new).at ∙ at)
+same_file : (n : Numbered) (row : ℕ) (x : Taken) (parts : NewLibrary) → (at : slice_get n.files.now row ≡ Some x) → (new : IsNew n row parts) → (new_row n row x parts at new).taken ≡ x
+same_file n row x parts at new = same_Some (new_row n row x parts at new).taken x (sym (new_row n row x parts at new).at ∙ at)
 
 pub library_object : (n : Numbered) (row : ℕ) (x : Taken) (parts : NewLibrary) → (at : slice_get n.files.now row ≡ Some x) → (new : IsNew n row parts) → object_by x.entry ≡ Some new.firm.object
-library_object n row x parts at new = ap (λ (y : Taken). object_by y.entry) (sym (same_file n row x parts at new)) ∙ (library_row n row x parts at new).object
+library_object n row x parts at new = ap (λ (y : Taken). object_by y.entry) (sym (same_file n row x parts at new)) ∙ (new_row n row x parts at new).object
 
 pub library_firm_is : (n : Numbered) (row : ℕ) (x : Taken) (parts : NewLibrary) → (at : slice_get n.files.now row ≡ Some x) → (new : IsNew n row parts) → firm_by n row x new.firm.object ≡ new.firm
-library_firm_is n row x parts at new = ap (λ (y : Taken). firm_by n row y new.firm.object) (sym (same_file n row x parts at new)) ∙ (library_row n row x parts at new).is
+library_firm_is n row x parts at new = ap (λ (y : Taken). firm_by n row y new.firm.object) (sym (same_file n row x parts at new)) ∙ (new_row n row x parts at new).is
 
 pub made_firm : (n : Numbered) (row : ℕ) (x : Taken) (parts : NewLibrary) → (at : slice_get n.files.now row ≡ Some x) → (new : IsNew n row parts) → firm_of x parts Two new.firm.object ≡ new.firm
 made_firm n row x parts at new =

@@ -32,6 +32,10 @@ use Rattle.pl_rewrite.proofs.ListLaws.{library_is, program_is, set_nothing, set_
 pub file_at : (n : Numbered) (row : ℕ) (t : Taken) → row < length n.files.now → t ≡ get_or n.files.now row t → slice_get n.files.now row ≡ Some t
 file_at n row t lt is = slice_get-get_or n.files.now row t lt ∙ ap (λ (x : Taken). Some x) (sym is)
 
+-- the same, of what is read at the row
+pub file_or : (n : Numbered) (row : ℕ) (d : Taken) → row < length n.files.now → slice_get n.files.now row ≡ Some (get_or n.files.now row d)
+file_or n row d lt = slice_get-get_or n.files.now row d lt
+
 pub firm_of_file : (n : Numbered) (row : ℕ) (t : Taken) (o : Option Object) → slice_get n.files.now row ≡ Some t → o ≡ object_by t.entry → firm_at n row ≡ option_map (firm_by n row t) o
 firm_of_file n row t o at is = rw at (ap (option_map (firm_by n row t)) (sym is))
 

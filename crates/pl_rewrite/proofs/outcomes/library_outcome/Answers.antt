@@ -1,5 +1,5 @@
 use Rattle.pl_rewrite.proofs.MadeRowLaws.{library_none, library_there}
-use Rattle.pl_rewrite.proofs.RowTestLaws.{file_at}
+use Rattle.pl_rewrite.proofs.RowTestLaws.{file_or}
 use Rattle.pl_rewrite.proofs.outcomes.library_outcome.Goals as goal
 
 pub bounds-numbered-row : goal.bounds-numbered-row
@@ -10,5 +10,5 @@ returns-in-Some c = library_there c.args.numbered.now c.args.row c.in_ok-made.ma
 
 pub returns-in-None : goal.returns-in-None
 returns-in-None c =
-    let at = file_at c.args.numbered.now c.args.row c.index-numbered-row.result c.requires.row.within c.index-numbered-row.is in
-    library_none c.args.numbered.now c.args.row c.in_ok-made.made c.index-numbered-row.result c.in_ok-cause.cause c.requires.row.walk c.in-None.is c.in_ok-made.ensures at c.in_ok-cause.ensures
+    let at = file_or c.args.numbered.now c.args.row c.index-numbered-row.result c.requires.row.within in
+    library_none c.args.numbered.now c.args.row c.in_ok-made.made _ c.in_ok-cause.cause c.requires.row.walk c.in-None.is c.in_ok-made.ensures at c.in_ok-cause.ensures

@@ -1,5 +1,5 @@
 use Rattle.pl_rewrite.proofs.MadeRowLaws.{program_none, program_there}
-use Rattle.pl_rewrite.proofs.RowTestLaws.{file_at}
+use Rattle.pl_rewrite.proofs.RowTestLaws.{file_or}
 use Rattle.pl_rewrite.proofs.outcomes.program_outcome.Goals as goal
 
 pub returns-in-Some : goal.returns-in-Some
@@ -8,5 +8,5 @@ returns-in-Some c = program_there c.args.work.now.numbered.now c.args.row c.in_o
 pub returns-in-None : goal.returns-in-None
 returns-in-None c =
     let n = c.args.work.now.numbered.now in
-    let at = file_at n c.args.row c.index-work-row.result c.requires.row c.index-work-row.is in
-    program_none n c.args.row c.in_ok-made.made c.index-work-row.result c.in_ok-cause.cause c.in-None.is c.in_ok-made.ensures at c.in_ok-cause.ensures
+    let at = file_or n c.args.row c.index-work-row.result c.requires.row in
+    program_none n c.args.row c.in_ok-made.made _ c.in_ok-cause.cause c.in-None.is c.in_ok-made.ensures at c.in_ok-cause.ensures

@@ -1,10 +1,8 @@
-use Rattle.std.proofs.Common.{◌≡◌, ◌<◌, List, Ok, Some, length, ap, refl, subst, sym, arith, ◌∙◌}
-use Rattle.std.specs.Prelude.{slice_get}
-use Rattle.std.proofs.lemmas.Option.{slice_get_read}
+use Rattle.std.proofs.Common.{◌<◌, List, Ok, length, ap, refl, subst, sym, arith, ◌∙◌}
+use Rattle.std.proofs.lemmas.Option.{slice_get-get_or}
 use Rattle.std.proofs.lemmas.Result.{err_from_is_err_and}
 use Rattle.pl_cone.specs.Links.{objects_of}
 use Rattle.pl_rewrite.specs.RemainingRows.{GivesFirst}
-use Rattle.pl_rewrite.specs.declared.row_words.RowWords.{RowWords}
 use Rattle.pl_rewrite.proofs.NumberedLaws.{row_within}
 use Rattle.pl_rewrite.proofs.ProgramContentLaws.{can_list, contents_are, filling_is, found_first, own_each, own_members, own_refused, some_members}
 use Rattle.pl_rewrite.proofs.RowsLaws.{object_at}
@@ -27,8 +25,8 @@ pub own_meanings-requires-clause-found : goal.own_meanings-requires-clause-found
 own_meanings-requires-clause-found c =
     let all = c.args.work.now.row_words.now in
     let lt : c.args.row < length all = omega (arith, row_within c.args.work.now.numbered.now c.args.row c.requires.program.walk, c.requires.work.row_words.count) in
-    let at : slice_get all c.args.row ≡ Some c.index-work-row.result = slice_get_read all (length all) c.args.row c.index-work-row.result refl lt c.index-work-row.is in
-    found_first c.args.work.now c.args.row c.args.linking.now c.requires.work c.requires.program c.requires.linking c.requires.set c.index-work-row.result c.as_slice-found.result.now at c.as_slice-found.ensures
+    let at = slice_get-get_or all c.args.row c.index-work-row.result lt in
+    found_first c.args.work.now c.args.row c.args.linking.now c.requires.work c.requires.program c.requires.linking c.requires.set _ c.as_slice-found.result.now at c.as_slice-found.ensures
 
 pub returns-in_err-meanings : goal.returns-in_err-meanings
 returns-in_err-meanings c =
