@@ -9,13 +9,13 @@ pub digests_of-requires-clause-one_each : goal.digests_of-requires-clause-one_ea
 digests_of-requires-clause-one_each c = c.requires.stale.count
 
 pub programs_of-requires-clause-digests : goal.programs_of-requires-clause-digests
-programs_of-requires-clause-digests c = rw c.as_slice-digests.ensures c.in_ok-made.ensures
+programs_of-requires-clause-digests c = rw c.as_slice-digests.ensures.value c.in_ok-made.ensures
 
 pub programs_of-requires-clause-row_words : goal.programs_of-requires-clause-row_words
-programs_of-requires-clause-row_words c = rw c.as_slice.ensures c.in_ok-row_words.ensures
+programs_of-requires-clause-row_words c = rw c.as_slice.ensures.value c.in_ok-row_words.ensures
 
 pub with_libraries-requires-clause-digests : goal.with_libraries-requires-clause-digests
-with_libraries-requires-clause-digests c = rw c.as_slice-digests.ensures c.in_ok-made.ensures
+with_libraries-requires-clause-digests c = rw c.as_slice-digests.ensures.value c.in_ok-made.ensures
 
 pub with_libraries-requires-clause-row_words : goal.with_libraries-requires-clause-row_words
 with_libraries-requires-clause-row_words c =

@@ -8,18 +8,18 @@ held_by_programs-requires-clause-one_each c = c.requires.stale.count
 
 pub words_of_rows-requires-clause-needed : goal.words_of_rows-requires-clause-needed
 words_of_rows-requires-clause-needed c =
-    let held = subst (AreHeldFlags c.args.numbered.now c.args.stale.now) (sym c.as_slice-held.ensures) c.in_ok-flags.ensures in
+    let held = subst (AreHeldFlags c.args.numbered.now c.args.stale.now) (sym c.as_slice-held.ensures.value) c.in_ok-flags.ensures in
     asked_for c.args.numbered.now _ c.args.stale.now refl held c.requires.stale.count
 
 pub words_of_rows-requires-clause-links : goal.words_of_rows-requires-clause-links
 words_of_rows-requires-clause-links c =
-    let held = subst (AreHeldFlags c.args.numbered.now c.args.stale.now) (sym c.as_slice-held.ensures) c.in_ok-flags.ensures in
+    let held = subst (AreHeldFlags c.args.numbered.now c.args.stale.now) (sym c.as_slice-held.ensures.value) c.in_ok-flags.ensures in
     links_needed c.args.numbered.now _ c.args.stale.now c.args.links refl held c.requires.links
 
 pub returns : goal.returns
 returns c = record {
   asked = _;
   made = refl;
-  held = subst (AreHeldFlags c.args.numbered.now c.args.stale.now) (sym c.as_slice-held.ensures) c.in_ok-flags.ensures;
+  held = subst (AreHeldFlags c.args.numbered.now c.args.stale.now) (sym c.as_slice-held.ensures.value) c.in_ok-flags.ensures;
   told = c.in_ok-row_words.ensures;
 }

@@ -5,7 +5,7 @@ use Rattle.pl_rewrite.specs.Outcomes.{AreHeldFlags}
 use Rattle.pl_rewrite.proofs.DigestLaws.{numbered_read}
 use Rattle.pl_rewrite.proofs.NumberedLaws.{row_within}
 use Rattle.pl_rewrite.proofs.ProgramRowLaws.{asked_for, have_words, program_rows, stale_library_row}
-use Rattle.pl_rewrite.proofs.RowTestLaws.{file_at}
+use Rattle.pl_rewrite.proofs.RowTestLaws.{file_or}
 use Rattle.pl_rewrite.proofs.VerifyRowLaws.{column_one, library_one, needed_walks, program_one}
 use Rattle.pl_rewrite.proofs.verifying.meant_by.Goals as goal
 
@@ -14,17 +14,17 @@ held_by_programs-requires-clause-one_each c = c.requires.stale.count
 
 pub links_for-requires-clause-needed : goal.links_for-requires-clause-needed
 links_for-requires-clause-needed c =
-    let held = subst (AreHeldFlags c.args.numbered.now c.args.stale.now) (sym c.as_slice-held.ensures) c.in_ok-flags.ensures in
+    let held = subst (AreHeldFlags c.args.numbered.now c.args.stale.now) (sym c.as_slice-held.ensures.value) c.in_ok-flags.ensures in
     asked_for c.args.numbered.now _ c.args.stale.now refl held c.requires.stale.count
 
 pub links_for-requires-clause-walks : goal.links_for-requires-clause-walks
 links_for-requires-clause-walks c =
-    let held = subst (AreHeldFlags c.args.numbered.now c.args.stale.now) (sym c.as_slice-held.ensures) c.in_ok-flags.ensures in
+    let held = subst (AreHeldFlags c.args.numbered.now c.args.stale.now) (sym c.as_slice-held.ensures.value) c.in_ok-flags.ensures in
     needed_walks c.args.numbered.now _ c.args.stale.now c.args.row c.requires.numbered c.requires.walk c.requires.stale refl held
 
 pub words_of_rows-requires-clause-needed : goal.words_of_rows-requires-clause-needed
 words_of_rows-requires-clause-needed c =
-    let held = subst (AreHeldFlags c.args.numbered.now c.args.stale.now) (sym c.as_slice-held.ensures) c.in_ok-flags.ensures in
+    let held = subst (AreHeldFlags c.args.numbered.now c.args.stale.now) (sym c.as_slice-held.ensures.value) c.in_ok-flags.ensures in
     asked_for c.args.numbered.now _ c.args.stale.now refl held c.requires.stale.count
 
 pub words_of_rows-requires-clause-links : goal.words_of_rows-requires-clause-links
@@ -46,20 +46,20 @@ pub library_meant-requires-clause-row : goal.library_meant-requires-clause-row
 library_meant-requires-clause-row c =
     let n = c.args.numbered.now in
     let lt = row_within n c.args.row c.requires.walk in
-    let at = file_at n c.args.row c.index-numbered-row.result lt c.index-numbered-row.is in
-    let on = library_one n c.args.stale.now c.args.row c.index-numbered-row.result lt c.requires.stale at (sym c.is_library-library.ensures ∙ c.if-library.true) in
+    let at = file_or n c.args.row c.index-numbered-row.result lt in
+    let on = library_one n c.args.stale.now c.args.row _ lt c.requires.stale at (sym c.is_library-library.ensures ∙ c.if-library.true) in
     stale_library_row n c.args.stale.now c.args.row lt (column_one n c.args.stale.now c.args.row c.requires.stale c.requires.walk) on
 
 pub library_meant-requires-clause-digests : goal.library_meant-requires-clause-digests
-library_meant-requires-clause-digests c = rw c.as_slice-digests.ensures c.in_ok-made.ensures
+library_meant-requires-clause-digests c = rw c.as_slice-digests.ensures.value c.in_ok-made.ensures
 
 pub library_meant-requires-clause-words : goal.library_meant-requires-clause-words
 library_meant-requires-clause-words c =
     let n = c.args.numbered.now in
     let all = c.in_ok-row_words.row_words.items in
     let lt = row_within n c.args.row c.requires.walk in
-    let file = file_at n c.args.row c.index-numbered-row.result lt c.index-numbered-row.is in
-    let on = library_one n c.args.stale.now c.args.row c.index-numbered-row.result lt c.requires.stale file (sym c.is_library-library.ensures ∙ c.if-library.true) in
+    let file = file_or n c.args.row c.index-numbered-row.result lt in
+    let on = library_one n c.args.stale.now c.args.row _ lt c.requires.stale file (sym c.is_library-library.ensures ∙ c.if-library.true) in
     let words = have_words n _ c.args.stale.now all refl (column_one n c.args.stale.now c.args.row c.requires.stale c.requires.walk) c.in_ok-row_words.ensures in
     let at : slice_get all c.args.row ≡ Some c.remove-one.result = slice_get_read all (length all) c.args.row c.remove-one.result refl (omega (arith, lt, words.count)) c.remove-one.ensures.value in
     words.each c.args.row c.remove-one.result at on
@@ -68,8 +68,8 @@ pub program_meant-requires-clause-work : goal.program_meant-requires-clause-work
 program_meant-requires-clause-work c = record {
   numbered = c.requires.numbered;
   asked = _;
-  row_words = rw c.as_slice-told.ensures c.in_ok-row_words.ensures;
-  digests = rw c.as_slice-digests.ensures c.in_ok-made.ensures;
+  row_words = rw c.as_slice-told.ensures.value c.in_ok-row_words.ensures;
+  digests = rw c.as_slice-digests.ensures.value c.in_ok-made.ensures;
 }
 
 pub program_meant-requires-clause-row : goal.program_meant-requires-clause-row
@@ -79,7 +79,7 @@ pub program_meant-requires-clause-program : goal.program_meant-requires-clause-p
 program_meant-requires-clause-program c =
     let n = c.args.numbered.now in
     let lt = row_within n c.args.row c.requires.walk in
-    let at = file_at n c.args.row c.index-numbered-row.result lt c.index-numbered-row.is in
-    let on = program_one n c.args.stale.now c.args.row c.index-numbered-row.result lt c.requires.stale at (sym c.is_library-library.ensures ∙ c.if-library.false) in
-    let held = subst (AreHeldFlags n c.args.stale.now) (sym c.as_slice-held.ensures) c.in_ok-flags.ensures in
-    program_rows _ _ c.args.stale.now c.requires.numbered refl held (column_one n c.args.stale.now c.args.row c.requires.stale c.requires.walk) (rw c.as_slice-told.ensures c.in_ok-row_words.ensures) c.args.row on
+    let at = file_or n c.args.row c.index-numbered-row.result lt in
+    let on = program_one n c.args.stale.now c.args.row _ lt c.requires.stale at (sym c.is_library-library.ensures ∙ c.if-library.false) in
+    let held = subst (AreHeldFlags n c.args.stale.now) (sym c.as_slice-held.ensures.value) c.in_ok-flags.ensures in
+    program_rows _ _ c.args.stale.now c.requires.numbered refl held (column_one n c.args.stale.now c.args.row c.requires.stale c.requires.walk) (rw c.as_slice-told.ensures.value c.in_ok-row_words.ensures) c.args.row on

@@ -34,7 +34,7 @@ meant_by-requires-clause-stale c =
     let first = first_row n c.args.row c.walk-walk.result.now c.first-item.result walk c.walk-walk.ensures c.first-item.is in
     let made : AreFlagsOf (length n.files.now) (c.args.row ∷ []) c.in_ok-flags.flags.items =
     subst (λ (r : ℕ). AreFlagsOf (length n.files.now) (r ∷ []) c.in_ok-flags.flags.items) first (subst (λ (k : ℕ). AreFlagsOf k (c.first-item.result ∷ []) c.in_ok-flags.flags.items) c.len-count.ensures c.in_ok-flags.ensures) in
-    subst (AreFlagsOf (length n.files.now) (c.args.row ∷ [])) (sym c.as_slice-stale.ensures) made
+    subst (AreFlagsOf (length n.files.now) (c.args.row ∷ [])) (sym c.as_slice-stale.ensures.value) made
 
 pub returns : goal.returns
 returns c = record {
