@@ -57,6 +57,7 @@ pub mod CandidateRowLaws
 pub mod PlannedFileLaws
 pub mod StaleRowLaws
 pub mod OutcomeLaws
+pub mod OriginalLaws
 pub mod RowOutcomeLaws
 pub mod NewRowLaws
 pub mod NewFileLaws

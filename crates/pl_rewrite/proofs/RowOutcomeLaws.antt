@@ -25,20 +25,18 @@ use Rattle.pl_conflict.specs.Format.{format}
 use Rattle.pl_conflict.specs.Prelinked.{Firm, are_set}
 use Rattle.pl_elf.specs.Kinds.{is_library}
 use Rattle.pl_elf.specs.declared.range.Range.{Range}
-use Rattle.pl_form.specs.Files.{marked_in, original_in, original_or_file}
+use Rattle.pl_form.specs.Files.{marked_in}
 use Rattle.pl_form.specs.declared.file.Marked.{Marked}
 use Rattle.pl_form.specs.declared.version.Version.TheVariants.{Two}
 use Rattle.pl_object.specs.declared.object.Object.{Object}
 use Rattle.pl_journal.specs.declared.change.Change.{Change}
-use Rattle.pl_journal.specs.declared.change.Change.TheVariants.{Put}
-use Rattle.pl_scope.proofs.NameLaws.{eq_refl}
 use Rattle.law_sound.specs.Rule as sound
 use Rattle.law_sound.specs.Rule.{objects}
 use Rattle.pl_rewrite.specs.Changes as changes
 use Rattle.pl_rewrite.specs.Changes.{put}
 use Rattle.pl_rewrite.specs.Contents.{conflicts_in}
 use Rattle.pl_rewrite.specs.Libraries.{IsNew, storable_library}
-use Rattle.pl_rewrite.specs.Outcomes.{IsMadeAt, IsOutcome, KeepsFile, MayBe, kept_by, made_by, made_in, made_original, made_program, made_with, put_original, too_large}
+use Rattle.pl_rewrite.specs.Outcomes.{IsMadeAt, IsOutcome, KeepsFile, MayBe, kept_by, made_by, made_in, made_original, made_program, made_with, too_large}
 use Rattle.pl_rewrite.specs.Outcomes as spec
 use Rattle.pl_rewrite.specs.Reports as reports
 use Rattle.pl_rewrite.specs.Rows.{IsFirmAt, IsWalkRow, firm_by, firms_of, is_library_row, number_at, of_firm}
@@ -58,6 +56,7 @@ use Rattle.pl_rewrite.proofs.NewLaws.{library_state, program_state}
 use Rattle.pl_rewrite.proofs.NewLibraryLaws.{IsFirst, first_is, library_firm}
 use Rattle.pl_rewrite.proofs.OutcomeLaws.{by_cause, current_is, large_is, new_is, no_cause, skipped_is}
 use Rattle.pl_rewrite.proofs.RowByRowLaws.{zip_each}
+use Rattle.pl_rewrite.proofs.OriginalLaws.{no_mark}
 use Rattle.pl_rewrite.proofs.PlannedFileLaws.{library_numbers, meant_is}
 use Rattle.pl_rewrite.proofs.StaleRowLaws.{column, stale_candidate, stale_flag}
 use Rattle.pl_rewrite.proofs.NewRowLaws.{library_firm_is, library_may, library_object}
@@ -65,21 +64,6 @@ use Rattle.pl_rewrite.proofs.NewRowLaws.{library_firm_is, library_may, library_o
 entry_of : (region : Range) (ts : List Taken) (x : Taken) → IsRow region ts x → x.entry ≡ entry_in x.bytes
 unfolding taken_of
 entry_of region ts x known = ap (λ (t : Taken). t.entry) known.taken.is
-
--- a file that is not prelinked is its own original
-pub no_mark : (x : Taken) → marked_in x.bytes ≡ None → put (Some x.bytes) x.name (Some (original_in x.bytes)) ≡ None
-unfolding original_in
-no_mark x none =
-    let same : original_or_file x.bytes (marked_in x.bytes) ≡ x.bytes = ap (original_or_file x.bytes) none in
-    ap (λ (bs : List ℕ). put (Some x.bytes) x.name (Some bs)) same ∙ ap (λ (b : Bool). if b then None else Some (Put x.name x.bytes)) (eq_refl x.bytes)
-
--- one that is gets what its mark tells
-pub put_mark : (x : Taken) (m : Marked) (name old own original : List ℕ) → Some m ≡ marked_in x.bytes → name ≡ x.name → old ≡ x.bytes → own ≡ m.original → original ≡ own → put (Some old) name (Some original) ≡ put_original x
-unfolding original_in
-put_mark x m name old own original mark named before told copied =
-    let same : m.original ≡ original_or_file x.bytes (marked_in x.bytes) = ap (original_or_file x.bytes) mark in
-    ap (λ (bs : List ℕ). put (Some bs) name (Some original)) before
-    ∙ (ap (λ (k : List ℕ). put (Some x.bytes) k (Some original)) named ∙ ap (λ (bs : List ℕ). put (Some x.bytes) x.name (Some bs)) (copied ∙ (told ∙ same)))
 
 -- ---- what is reported of a planned file
 

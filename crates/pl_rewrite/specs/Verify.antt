@@ -1,5 +1,5 @@
 -- Whether a file is the prelinked file of the originals that are there.
-use Rattle.std.specs.Prelude.{◌≡◌, ◌≤◌, ℕ, Bool, true, false, List, [], length, slice_get, Option, Some, None, is_some, if◌then◌else◌}
+use Rattle.std.specs.Prelude.{◌≡◌, ◌≤◌, ℕ, Bool, true, false, List, [], length, map, slice_get, Option, Some, None, is_some, if◌then◌else◌}
 use Rattle.std.specs.List.{list_all}
 use Rattle.std.specs.Str.{bytes_eq}
 use Rattle.std.specs.Option.{option_and_then}
@@ -50,6 +50,11 @@ is_marked_at ts row = is_some (option_and_then (λ t. marked_by t.entry) (slice_
 
 abbrev pub are_marked : List Taken → List ℕ → Bool
 are_marked ts rows = list_all (is_marked_at ts) rows
+
+-- the numbers are those that the files bear
+pub record AreBorne (n : Numbered) : Type 0 where
+  pub places : n.places.now ≡ map slot_borne n.files.now
+  pub stamps : n.stamps.now ≡ map stamp_borne n.files.now
 
 -- ---- the file that is meant of a row
 

@@ -77,7 +77,10 @@ fn is_named_well(numbered: &Numbered<'_>, row: usize) -> bool
     ensures { result ≡ spec.is_named_well numbered.now row }
 {
     let taken = &numbered.files[row];
-    taken.object().is_some() && is_valid_name(taken.name.as_str().as_bytes())
+    match taken.object() {
+        None => false,
+        Some(_) => is_valid_name(taken.name.as_str().as_bytes()),
+    }
 }
 
 /// Whether the names of the files of rows are valid.

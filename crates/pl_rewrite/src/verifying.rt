@@ -257,6 +257,27 @@ fn meant_with(
     Ok(file)
 }
 
+/// The same for numbers that the files bear: none where a file of the walk is not prelinked.
+fn meant_if_marked(
+    alloc: Global,
+    numbered: &Numbered<'_>,
+    row: usize,
+    version: Version,
+) -> Result<Option<Vec<u8>>, NoMemory>
+    requires numbered { rows.IsNumbered numbered.now }
+    requires borne { spec.AreBorne numbered.now }
+    ensures { IfOk result (λ file. spec.IsMeantIn numbered.now.files.now row version
+        (option_map (λ v. v.items) file)) }
+{
+    let walk = numbered.walk(row);
+    let marked = are_marked(numbered.files, walk);
+    if !marked {
+        return Ok(None);
+    }
+    let file = meant_with(alloc, numbered, row, version)?;
+    Ok(file)
+}
+
 /// The file that is meant of a row: that of its walk's originals, in a version, at the slots and stamps that their files bear. None where there is none.
 fn meant(
     alloc: Global,
@@ -265,7 +286,6 @@ fn meant(
     version: Version,
 ) -> Result<Option<Vec<u8>>, NoMemory>
     requires taken { WereTaken files.now }
-    requires row { row < length files.now }
     ensures { IfOk result (λ file. spec.IsMeantIn files.now row version
         (option_map (λ v. v.items) file)) }
 {
@@ -283,12 +303,7 @@ fn meant(
         places,
         stamps,
     };
-    let walk = numbered.walk(row);
-    let marked = are_marked(files, walk);
-    if !marked {
-        return Ok(None);
-    }
-    let file = meant_with(alloc, &numbered, row, version)?;
+    let file = meant_if_marked(alloc, &numbered, row, version)?;
     Ok(file)
 }
 

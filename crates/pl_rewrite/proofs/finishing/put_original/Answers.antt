@@ -1,6 +1,6 @@
 use Rattle.std.proofs.Common.{sym, ◌∙◌}
 use Rattle.std.proofs.lemmas.Result.{IfOk-weaker}
-use Rattle.pl_rewrite.proofs.RowOutcomeLaws.{no_mark, put_mark}
+use Rattle.pl_rewrite.proofs.OriginalLaws.{no_mark, put_mark}
 use Rattle.pl_rewrite.proofs.finishing.put_original.Goals as goal
 
 pub returns-in_default : goal.returns-in_default

@@ -2,6 +2,7 @@ use Rattle.std.proofs.Common.{◌≡◌, length, Some, refl, subst, sym, ◌∙�
 use Rattle.std.specs.Prelude.{slice_get}
 use Rattle.std.proofs.lemmas.Option.{slice_get_read}
 use Rattle.pl_rewrite.specs.Outcomes.{AreHeldFlags}
+use Rattle.pl_rewrite.specs.RowWords.{AreRowWords}
 use Rattle.pl_rewrite.proofs.DigestLaws.{numbered_read}
 use Rattle.pl_rewrite.proofs.NumberedLaws.{row_within}
 use Rattle.pl_rewrite.proofs.ProgramRowLaws.{asked_for, have_words, program_rows, stale_library_row}
@@ -68,7 +69,7 @@ pub program_meant-requires-clause-work : goal.program_meant-requires-clause-work
 program_meant-requires-clause-work c = record {
   numbered = c.requires.numbered;
   asked = _;
-  row_words = rw c.as_slice-told.ensures.value c.in_ok-row_words.ensures;
+  row_words = subst (AreRowWords c.args.numbered.now _) (sym c.as_slice-told.ensures.value) c.in_ok-row_words.ensures;
   digests = rw c.as_slice-digests.ensures.value c.in_ok-made.ensures;
 }
 
@@ -82,4 +83,5 @@ program_meant-requires-clause-program c =
     let at = file_or n c.args.row c.index-numbered-row.result lt in
     let on = program_one n c.args.stale.now c.args.row _ lt c.requires.stale at (sym c.is_library-library.ensures ∙ c.if-library.false) in
     let held = subst (AreHeldFlags n c.args.stale.now) (sym c.as_slice-held.ensures.value) c.in_ok-flags.ensures in
-    program_rows _ _ c.args.stale.now c.requires.numbered refl held (column_one n c.args.stale.now c.args.row c.requires.stale c.requires.walk) (rw c.as_slice-told.ensures.value c.in_ok-row_words.ensures) c.args.row on
+    let told = subst (AreRowWords n _) (sym c.as_slice-told.ensures.value) c.in_ok-row_words.ensures in
+    program_rows _ _ c.args.stale.now c.requires.numbered refl held (column_one n c.args.stale.now c.args.row c.requires.stale c.requires.walk) told c.args.row on
