@@ -20,9 +20,9 @@ use Rattle.pl_scope.specs.declared.found.Found.{Found}
 use Rattle.pl_scope.specs.declared.index.Entry.{Entry}
 use Rattle.pl_rewrite.specs.Contents.{IsHeldRow, IsProgramRow, IsWork}
 use Rattle.pl_rewrite.specs.Flags.{flagged}
-use Rattle.pl_rewrite.specs.Outcomes.{AreHeldFlags, AreProgramRows, HaveWords, IsStaleColumn, held_by, is_held, is_held_before, is_library_at, is_library_taken, is_stale, is_stale_library, is_stale_program, is_used}
+use Rattle.pl_rewrite.specs.Outcomes.{AreHeldFlags, AreProgramRows, AreToldRows, HaveWords, IsStaleColumn, held_by, is_held, is_held_before, is_library_at, is_library_taken, is_stale, is_stale_library, is_stale_program, is_used}
 use Rattle.pl_rewrite.specs.Rows.{IsFirmAt, IsLibraryRow, IsNumbered, IsWalkRow, firms_of, is_library_row, of_firm, walk_of}
-use Rattle.pl_rewrite.specs.RowWords.{AreLinks, AreRowWords, AreRowWordsAt, FindsRow, IsLinkAt, IsNeeded, is_asked, is_needed, is_set}
+use Rattle.pl_rewrite.specs.RowWords.{AreLinks, AreRowWords, AreRowWordsAt, FindsRow, IsLinkAt, is_asked, is_needed, is_set}
 use Rattle.pl_rewrite.specs.Sources.{AreSources}
 use Rattle.pl_rewrite.specs.declared.numbers.Numbered.{Numbered}
 use Rattle.pl_rewrite.specs.declared.program.Work.{Work}
@@ -107,20 +107,23 @@ asked_held n stale held row are lt =
     let there = slice_get_at held row (omega (arith, lt, are.count)) in
     ap is_set there.1 ∙ are.each row there.0 there.1
 
-pub needed_is : (n : Numbered) (asked : Needed) (stale : List Bool) (row : ℕ) → asked.made.now ≡ stale → AreHeldFlags n stale asked.held.now → row < length n.files.now → is_needed asked row ≡ is_used n stale row
-needed_is n asked stale row made held lt =
-    ap (λ (flags : List Bool). is_asked flags row || is_asked asked.held.now row) made ∙ ap (λ (b : Bool). is_stale stale row || b) (asked_held n stale asked.held.now row held lt)
+-- by the flags of stale rows and of those that their walks hold
+asked_used : (n : Numbered) (stale held : List Bool) (row : ℕ) → AreHeldFlags n stale held → row < length n.files.now → (is_asked stale row || is_asked held row) ≡ is_used n stale row
+asked_used n stale held row are lt = ap (λ (b : Bool). is_stale stale row || b) (asked_held n stale held row are lt)
 
-pub links_needed : (n : Numbered) (asked : Needed) (stale : List Bool) (links : List Link) → asked.made.now ≡ stale → AreHeldFlags n stale asked.held.now → AreLinks n (is_used n stale) links → AreLinks n (is_needed asked) links
-links_needed n asked stale links made held are = record {
+needed_is : (n : Numbered) (asked : Needed) (stale : List Bool) (row : ℕ) → asked.made.now ≡ stale → AreHeldFlags n stale asked.held.now → row < length n.files.now → is_needed asked row ≡ is_used n stale row
+needed_is n asked stale row made held lt = ap (λ (flags : List Bool). is_asked flags row || is_asked asked.held.now row) made ∙ asked_used n stale asked.held.now row held lt
+
+pub links_needed : (n : Numbered) (stale held : List Bool) (links : List Link) → AreHeldFlags n stale held → AreLinks n (is_used n stale) links → AreLinks n (λ row. is_asked stale row || is_asked held row) links
+links_needed n stale held links flags are = record {
   count = are.count;
   each = λ row l at need.
       let lt : row < length n.files.now = omega (arith, slice_get_within links row l at, are.count) in
-      are.each row l at (sym (needed_is n asked stale row made held lt) ∙ need);
+      are.each row l at (sym (asked_used n stale held row flags lt) ∙ need);
 }
 
-pub asked_for : (n : Numbered) (asked : Needed) (stale : List Bool) → asked.made.now ≡ stale → AreHeldFlags n stale asked.held.now → length stale ≡ length n.files.now → IsNeeded n asked
-asked_for n asked stale made held count = record { made = ap length made ∙ count; held = held.count }
+pub told_rows : (n : Numbered) (asked : Needed) (stale : List Bool) (all : List RowWords) → AreRowWords n asked all → asked.made.now ≡ stale → AreHeldFlags n stale asked.held.now → AreToldRows n stale all
+told_rows n asked stale all told made held = record { asked = asked; made = made; held = held; told = told }
 
 -- the member of an index of rows
 pub zip_there : {X Y : Type 0} (R : X → Y → Type 0) (xs : List X) (ys : List Y) (i : ℕ) (x : X) → AllZip R xs ys → slice_get xs i ≡ Some x → (y : Y) × (slice_get ys i ≡ Some y) × R x y

@@ -29,11 +29,10 @@ use Rattle.law_sound.specs.Rule as sound
 use Rattle.pl_rewrite.specs.Flags.{AreFlagsOf, flagged}
 use Rattle.pl_rewrite.specs.Outcomes.{AreHeldFlags, IsStaleColumn, is_held, is_library_at, is_library_taken, is_stale, is_stale_library, is_stale_program}
 use Rattle.pl_rewrite.specs.Rows.{IsFirmAt, IsNumbered, IsWalkRow, firms_of, walk_of}
-use Rattle.pl_rewrite.specs.RowWords.{is_asked, is_needed, is_set}
+use Rattle.pl_rewrite.specs.RowWords.{is_asked, is_set}
 use Rattle.pl_rewrite.specs.Sources.{AreSources, member_names}
-use Rattle.pl_rewrite.specs.Verify.{HaveNeededWalks, is_marked_at, slot_borne, stamp_borne}
+use Rattle.pl_rewrite.specs.Verify.{slot_borne, stamp_borne}
 use Rattle.pl_rewrite.specs.declared.numbers.Numbered.{Numbered}
-use Rattle.pl_rewrite.specs.declared.row_words.Needed.{Needed}
 use Rattle.pl_rewrite.proofs.CandidateRowLaws.{IsItself, names_are}
 use Rattle.pl_rewrite.proofs.FirmRowLaws.{firms_named, firms_zip, named_of}
 use Rattle.pl_rewrite.proofs.LaterMemberLaws.{first_linked}
@@ -111,14 +110,12 @@ member_walk_row n row zero r numbered walk at =
 member_walk_row n row (suc m) r numbered walk at = later_walk_row n row m r numbered walk at
 
 -- the rows that are needed have walks
-pub needed_walks : (n : Numbered) (asked : Needed) (stale : List Bool) (row : ℕ) → IsNumbered n → IsWalkRow n row → AreFlagsOf (length n.files.now) (row ∷ []) stale → asked.made.now ≡ stale → AreHeldFlags n stale asked.held.now → HaveNeededWalks n asked
-needed_walks n asked stale row numbered walk flags made held = λ k need. elim (or_cases (is_asked asked.made.now k) (is_asked asked.held.now k) need) [
-  | inl one ↦
-      let on : is_stale stale k ≡ true = ap (λ (fs : List Bool). is_asked fs k) (sym made) ∙ one in
-      subst (IsWalkRow n) (sym (one_stale n stale row k flags on)) walk
+pub needed_walks : (n : Numbered) (stale held : List Bool) (row : ℕ) → IsNumbered n → IsWalkRow n row → AreFlagsOf (length n.files.now) (row ∷ []) stale → AreHeldFlags n stale held → (k : ℕ) → (is_asked stale k || is_asked held k) ≡ true → IsWalkRow n k
+needed_walks n stale held row numbered walk flags are k need = elim (or_cases (is_asked stale k) (is_asked held k) need) [
+  | inl one ↦ subst (IsWalkRow n) (sym (one_stale n stale row k flags one)) walk
   | inr other ↦
-      let lt : k < length n.files.now = omega (arith, set_within asked.held.now k other, held.count) in
-      let on : is_held n stale k ≡ true = sym (asked_held n stale asked.held.now k held lt) ∙ other in
+      let lt : k < length n.files.now = omega (arith, set_within held k other, are.count) in
+      let on : is_held n stale k ≡ true = sym (asked_held n stale held k are lt) ∙ other in
       let h : IsHeldBy n stale k = held_from n stale (length n.files.now) k on in
       let first : is_stale stale h.program ≡ true = (and_parts (is_stale stale h.program) (not (is_library_at n h.program)) h.stands).0 in
       let same : h.program ≡ row = one_stale n stale row h.program flags first in
