@@ -20,7 +20,7 @@ bounds-files-row c =
     let given = c.into_iter-cause-iterator.ensures.into_iter_gives in
     let items = c.into_vec-items.ensures in
     let turn = YieldsList-turn (YieldsList-from_vec {s = c.into_iter-cause-iterator.result} c.args.causes (given.0 ∙ items) (given.1 ∙ (c.into_vec-items.result.ok.0 ∙ ap length items))) c.loop-cause.yielded c.loop-cause.cause-iterator c.loop-cause.yielded_by c.next.result c.next.new.self c.in-Some.cause c.in-Some.is c.next.ensures.steps in
-    let row : c.len-row.result ≡ length c.loop-cause.all.items = omega arith in
+    let row : c.len-row.result ≡ length c.loop-cause.all.items = omega (arith, c.len-row.ensures, c.loop-cause.all.ok.0) in
     omega (arith, row, turn.0, c.loop-cause.invariant.0, c.requires.causes)
 
 pub loop-cause-preserved : goal.loop-cause-preserved
@@ -31,7 +31,7 @@ loop-cause-preserved c =
     let ms = c.args.made.items in
     let turn = YieldsList-turn (YieldsList-from_vec {s = c.into_iter-cause-iterator.result} c.args.causes (given.0 ∙ items) (given.1 ∙ (c.into_vec-items.result.ok.0 ∙ ap length items))) c.loop-cause.yielded c.loop-cause.cause-iterator c.loop-cause.yielded_by c.next.result c.next.new.self c.in-Some.cause c.in-Some.is c.next.ensures.steps in
     let i = length c.loop-cause.yielded in
-    let counted : c.len-row.result ≡ length c.loop-cause.all.items = omega arith in
+    let counted : c.len-row.result ≡ length c.loop-cause.all.items = omega (arith, c.len-row.ensures, c.loop-cause.all.ok.0) in
     let row : i ≡ c.len-row.result = omega (arith, counted, c.loop-cause.invariant.0) in
     let lt : i < length ms = omega (arith, turn.0, c.requires.causes, c.requires.made) in
     let n = next_turn ms i c.next-next.result (into_iter_items c.loop-cause.made) (into_iter_items c.next-next.new.self) (into_iter_len c.loop-cause.made) (into_iter_len c.next-next.new.self) lt c.loop-cause.invariant.2 c.loop-cause.invariant.3 c.next-next.ensures.cases in

@@ -59,7 +59,7 @@ returns-in-Ok c =
     let t = c.index-files-row.result in
     let o = c.in-Some.object.now in
     let f = program_row n c.args.row t o c.requires.program.walk c.index-files-row.is c.in-Some.ensures in (
-      c.len.ensures ∙ ap length c.as_slice-rows.ensures.value,
+      ap length c.as_slice-rows.ensures.value,
       λ ss are.
           rw (← c.as_slice-fills.ensures.value, ← c.as_slice-rows.ensures.value)
           (form_made n c.args.row t o c.as_slice-fills.result.now c.as_slice-rows.result.now c.as_slice-listed.result.now c.original-original.result.now c.args.version c.in-Ok.file.items c.trimmed.result.items ss f c.original-original.ensures (c.as_slice-listed.ensures ∙ c.in_ok-list.ensures)

@@ -7,8 +7,8 @@ use Rattle.pl_rewrite.specs.declared.numbers.Numbered.{Numbered}
 use Rattle.pl_rewrite.proofs.NumberedLaws.{row_within}
 use Rattle.pl_rewrite.proofs.verifying.meant_with.Goals as goal
 
-first_row : (n : Numbered) (row : ℕ) (walk : List ℕ) (first : ℕ) → IsWalkRow n row → walk ≡ walk_of n row → first ≡ get_or walk 0 first → first ≡ row
-first_row n row walk first is same at = at ∙ ap (λ (ks : List ℕ). get_or ks 0 first) (same ∙ is.is)
+first_row : (n : Numbered) (row : ℕ) (walk : List ℕ) (d : ℕ) → IsWalkRow n row → walk ≡ walk_of n row → get_or walk 0 d ≡ row
+first_row n row walk d is same = ap (λ (ks : List ℕ). get_or ks 0 d) (same ∙ is.is)
 
 pub returns-in_default : goal.returns-in_default
 returns-in_default c = record {
@@ -20,9 +20,9 @@ pub flags_of-requires : goal.flags_of-requires
 flags_of-requires c =
     let n = c.args.numbered.now in
     let walk = c.requires.walk (omega (arith, c.in-len1-up.len_at_least, ap length c.walk-walk.ensures)) in
-    let first = first_row n c.args.row c.walk-walk.result.now c.first-item.result walk c.walk-walk.ensures c.first-item.is in
-    let lt : c.first-item.result < length n.files.now = omega (arith, first, row_within n c.args.row walk) in
-    subst (λ (k : ℕ). AreBelow k (c.first-item.result ∷ [])) (sym c.len-count.ensures) (All-cons (λ (r : ℕ). r < length n.files.now) c.first-item.result [] lt (All-nil (λ (r : ℕ). r < length n.files.now)))
+    let below : AreBelow (length n.files.now) (c.args.row ∷ []) =
+    All-cons (λ (r : ℕ). r < length n.files.now) c.args.row [] (row_within n c.args.row walk) (All-nil (λ (r : ℕ). r < length n.files.now)) in
+    subst (λ (k : ℕ). AreBelow (length n.files.now) (k ∷ [])) (sym (first_row n c.args.row c.walk-walk.result.now _ walk c.walk-walk.ensures)) below
 
 pub meant_by-requires-clause-walk : goal.meant_by-requires-clause-walk
 meant_by-requires-clause-walk c = c.requires.walk (omega (arith, c.in-len1-up.len_at_least, ap length c.walk-walk.ensures))
@@ -31,9 +31,8 @@ pub meant_by-requires-clause-stale : goal.meant_by-requires-clause-stale
 meant_by-requires-clause-stale c =
     let n = c.args.numbered.now in
     let walk = c.requires.walk (omega (arith, c.in-len1-up.len_at_least, ap length c.walk-walk.ensures)) in
-    let first = first_row n c.args.row c.walk-walk.result.now c.first-item.result walk c.walk-walk.ensures c.first-item.is in
-    let made : AreFlagsOf (length n.files.now) (c.args.row ∷ []) c.in_ok-flags.flags.items =
-    subst (λ (r : ℕ). AreFlagsOf (length n.files.now) (r ∷ []) c.in_ok-flags.flags.items) first (subst (λ (k : ℕ). AreFlagsOf k (c.first-item.result ∷ []) c.in_ok-flags.flags.items) c.len-count.ensures c.in_ok-flags.ensures) in
+    let first = first_row n c.args.row c.walk-walk.result.now _ walk c.walk-walk.ensures in
+    let made : AreFlagsOf (length n.files.now) (c.args.row ∷ []) c.in_ok-flags.flags.items = subst (λ (k : ℕ). AreFlagsOf (length n.files.now) (k ∷ []) c.in_ok-flags.flags.items) first c.in_ok-flags.ensures in
     subst (AreFlagsOf (length n.files.now) (c.args.row ∷ [])) (sym c.as_slice-stale.ensures.value) made
 
 pub returns : goal.returns
