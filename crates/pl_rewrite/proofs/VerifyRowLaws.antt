@@ -121,17 +121,3 @@ needed_walks n stale held row numbered walk flags are k need = elim (or_cases (i
       let same : h.program ≡ row = one_stale n stale row h.program flags first in
       member_walk_row n row h.member k numbered walk (subst (λ (i : ℕ). slice_get (walk_of n i) h.member ≡ Some k) same h.at)
 ]
-
--- ---- the files with the numbers that they bear
-
-pub numbered_borne : (region : Range) (t : RunTable) (n : Numbered) → t.files.now ≡ n.files.now → AreTaken region n.files.now → IsRunTable region t → n.walks.now ≡ t.walks → n.index.now ≡ t.index → n.places.now ≡ map slot_borne n.files.now → n.stamps.now ≡ map stamp_borne n.files.now → IsNumbered n
-numbered_borne region t n files taken is walks index places stamps =
-    let all : AreWalks n.files.now (record { walks = t.walks; causes = refusals_in n.files.now }) = subst (λ (ts : List Taken). AreWalks ts (record { walks = t.walks; causes = refusals_in ts })) files is.walks in
-    let told = subst (λ (ts : List Taken). IsFolderIndex (folder_objects ts) t.index) files is.index in
-    record {
-      taken = (region, taken);
-      walks = subst (λ (ws : List (List ℕ)). AreWalks n.files.now (record { walks = ws; causes = refusals_in n.files.now })) (sym walks) all;
-      index = subst (IsFolderIndex (folder_objects n.files.now)) (sym index) told;
-      places = ap length places ∙ length-map n.files.now slot_borne;
-      stamps = ap length stamps ∙ length-map n.files.now stamp_borne;
-    }

@@ -18,7 +18,7 @@ use crate::own_words::OwnWords;
 use crate::program::{Work, program_file};
 use crate::row_words::{Needed, RowWords, is_needed, words_of_rows};
 use pl_base::Rows;
-use pl_cone::{Link, RunTable, Taken, WalkScope, library_link, row_of};
+use pl_cone::{FolderWalks, Link, Taken, WalkScope, index_of, library_link, row_of, walks_of};
 use pl_form::{Marked, Version};
 use pl_io::NoMemory;
 use std::alloc::{AllocError, Global};
@@ -289,8 +289,9 @@ fn meant(
     ensures { IfOk result (λ file. spec.IsMeantIn files.now row version
         (option_map (λ v. v.items) file)) }
 {
-    let table = RunTable::of(alloc, files)?;
-    let RunTable { walks, index, .. } = table;
+    let made = walks_of(alloc, files)?;
+    let FolderWalks { walks, .. } = made;
+    let index = index_of(alloc, files)?;
     let slots = slots_borne(alloc, files)?;
     let times = stamps_borne(alloc, files)?;
     let rows = walks.as_slice();

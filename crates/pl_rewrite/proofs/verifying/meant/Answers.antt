@@ -1,16 +1,26 @@
-use Rattle.std.proofs.Common.{refl, sym, subst, ◌∙◌}
-use Rattle.pl_cone.specs.Taken.{AreTaken}
-use Rattle.pl_rewrite.proofs.VerifyRowLaws.{numbered_borne}
+use Rattle.std.proofs.Common.{ℕ, List, length, ap, sym, subst, ◌∙◌}
+use Rattle.std.proofs.lemmas.List.{length-map}
+use Rattle.pl_cone.specs.Table.{AreWalks, refusals_in}
+use Rattle.pl_cone.proofs.TableLaws.{walks_are}
+use Rattle.pl_rewrite.specs.Verify.{slot_borne, stamp_borne}
 use Rattle.pl_rewrite.proofs.verifying.meant.Goals as goal
 
-pub of-requires : goal.of-requires
-of-requires c = c.requires.taken
+pub walks_of-requires : goal.walks_of-requires
+walks_of-requires c = c.requires.taken
+
+pub index_of-requires : goal.index_of-requires
+index_of-requires c = c.requires.taken
 
 pub meant_if_marked-requires-clause-numbered : goal.meant_if_marked-requires-clause-numbered
 meant_if_marked-requires-clause-numbered c =
-    let region = c.requires.taken.0 in
-    let table = c.in_ok-table.ensures.table region (subst (AreTaken region) (sym c.in_ok-table.ensures.files) c.requires.taken.1) in
-    numbered_borne region c.in_ok-table.table _ c.in_ok-table.ensures.files c.requires.taken.1 table c.as_slice-rows.ensures refl (c.as_slice-places.ensures ∙ c.in_ok-slots.ensures) (c.as_slice-stamps.ensures ∙ c.in_ok-times.ensures)
+    let ts = c.args.files.now in
+    record {
+      taken = c.requires.taken;
+      walks = subst (λ (rows : List (List ℕ)). AreWalks ts (record { walks = rows; causes = refusals_in ts })) (sym c.as_slice-rows.ensures) (walks_are ts c.in_ok-made.made c.in_ok-made.ensures);
+      index = c.in_ok-index.ensures;
+      places = ap length (c.as_slice-places.ensures ∙ c.in_ok-slots.ensures) ∙ length-map ts slot_borne;
+      stamps = ap length (c.as_slice-stamps.ensures ∙ c.in_ok-times.ensures) ∙ length-map ts stamp_borne;
+    }
 
 pub meant_if_marked-requires-clause-borne : goal.meant_if_marked-requires-clause-borne
 meant_if_marked-requires-clause-borne c = record {
