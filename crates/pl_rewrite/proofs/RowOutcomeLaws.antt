@@ -117,9 +117,9 @@ module _ (n : Numbered) (links : List Link) (causes : List (Option Skip)) (a : A
   large_made row x at on none = sym (large_is files a.region run x.name x.bytes (known row x at).file (named_stale row x at on) none)
 
   -- one that has the file that is planned
-  new_made : (row : ℕ) (x : Taken) (file : List ℕ) (state : RowState) → slice_get n.files.now row ≡ Some x → spec.is_stale stale row ≡ true → Some file ≡ changes.prelinked files a.region run x.name → state ≡ reports.state_in x.name false (marked_in file)
+  planned_made : (row : ℕ) (x : Taken) (file : List ℕ) (state : RowState) → slice_get n.files.now row ≡ Some x → spec.is_stale stale row ≡ true → Some file ≡ changes.prelinked files a.region run x.name → state ≡ reports.state_in x.name false (marked_in file)
       → make (put (Some x.bytes) x.name (Some file)) state true ≡ meant x
-  new_made row x file state at on new told =
+  planned_made row x file state at on new told =
       ap (λ (s : RowState). make (put (Some x.bytes) x.name (Some file)) s true) told ∙ sym (new_is files a.region run x.name x.bytes (known row x at).file file (named_stale row x at on) new)
 
   program_made : (row : ℕ) (x : Taken) (made : NewProgram) → slice_get n.files.now row ≡ Some x → spec.is_stale stale row ≡ true → is_library_row n row ≡ false → made.conflicts ≡ conflicts_in made.file.items → Some made.file.items ≡ changes.prelinked files a.region run x.name
@@ -132,7 +132,7 @@ module _ (n : Numbered) (links : List Link) (causes : List (Option Skip)) (a : A
       let kind : is_library first.firm.object.kind ≡ false = sym (ap (of_firm false (λ (r : Firm). is_library r.object.kind)) first.at) ∙ other in
       let state : states.Program false made.conflicts ≡ reports.state_in x.name false (marked_in made.file.items) =
       ap (λ (count : ℕ). states.Program false count) rows ∙ program_told files a.region run x.name x.bytes made.file.items first.firm.object (known row x at).file object kind new in
-      new_made row x made.file.items (states.Program false made.conflicts) at on new state
+      planned_made row x made.file.items (states.Program false made.conflicts) at on new state
 
   -- the file of a new library is the one that is planned
   library_file_is : (row : ℕ) (x : Taken) (parts : NewLibrary) → slice_get n.files.now row ≡ Some x → spec.is_stale stale row ≡ true → is_library_row n row ≡ true → are_set (firms_of n row) ≡ true → IsNew n row parts
@@ -161,7 +161,7 @@ module _ (n : Numbered) (links : List Link) (causes : List (Option Skip)) (a : A
       let state : states.Library false parts.slot parts.stamp ≡ reports.state_in x.name false (marked_in file) =
       library_told row x parts new.firm.object at on there kind slot stamp
       ∙ library_reported files a.region run x.name x.bytes file (known row x at).file (library_entry_is row x new.firm.object at there kind) some in
-      new_made row x file (states.Library false parts.slot parts.stamp) at on some state
+      planned_made row x file (states.Library false parts.slot parts.stamp) at on some state
 
   pub stale_outcome : (row : ℕ) (x : Taken) (o : RowOutcome) → slice_get n.files.now row ≡ Some x → spec.is_stale stale row ≡ true → IsMadeAt n row o → IsOutcome files a.region run x o
   stale_outcome row x (outcomes.Unchanged state) at on made = absurd made
