@@ -8,7 +8,7 @@ bounds-numbered-row c = c.requires.row.within
 pub returns-in-Some : goal.returns-in-Some
 returns-in-Some c = library_there c.args.numbered.now c.args.row c.in_ok-made.made c.in-Some.library c.requires.row.library c.in-Some.is c.in_ok-made.ensures
 
-pub returns-in-None : goal.returns-in-None
-returns-in-None c =
+pub returns-in_ok-cause-in-None : goal.returns-in_ok-cause-in-None
+returns-in_ok-cause-in-None c =
     let at = file_or c.args.numbered.now c.args.row c.index-numbered-row.result c.requires.row.within in
-    library_none c.args.numbered.now c.args.row c.in_ok-made.made _ c.in_ok-cause.cause c.requires.row.walk c.in-None.is c.in_ok-made.ensures at c.in_ok-cause.ensures
+    library_none c.args.numbered.now c.args.row c.in_ok-made.made _ c.in_ok-cause-in-None.cause c.requires.row.walk c.in-None.is c.in_ok-made.ensures at c.in_ok-cause-in-None.ensures
