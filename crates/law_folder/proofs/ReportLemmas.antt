@@ -61,7 +61,6 @@ use Rattle.pl_tls.specs.declared.fault.TlsFault.{TlsFault}
 use Rattle.pl_tls.specs.declared.fault.TlsFault.TheVariants as tls_faults
 use Rattle.pl_value.specs.Meanings.{meanings}
 use Rattle.pl_value.specs.declared.fault.LinkFault.{LinkFault}
-use Rattle.pl_value.specs.declared.fault.LinkFault.TheVariants as link_faults
 use Rattle.law_folder.specs.Candidates.{HasPlan}
 use Rattle.law_folder.specs.Reported.{ReportsTellNames, SaysPrelinked, SaysTooLong, TellsName}
 use Rattle.law_folder.proofs.CandidateLemmas.{candidates_marked}
@@ -198,10 +197,7 @@ tls_not tls_faults.TooLarge = refl
 tls_not tls_faults.NoMemory = refl
 
 link_not : (ws : Walked) (e : LinkFault) → is_sixth (of_link ws e) ≡ false
-link_not ws (link_faults.Undefined member symbol) = refl
-link_not ws (link_faults.UndefinedTls member symbol) = refl
-link_not ws (link_faults.TlsMismatch member symbol) = refl
-link_not ws (link_faults.CopyOutside member symbol) = refl
+link_not ws e = refl
 
 linked_not : (ws : Walked) → NeverMemory is_sixth (check_links ws)
 unfolding check_links resolved

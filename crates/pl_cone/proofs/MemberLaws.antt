@@ -1,9 +1,7 @@
 -- The members of a walk, by their names.
 use Rattle.std.proofs.Common.{◌≡◌, ℕ, ◌<◌, ◌≤◌, ◌^◌, List, [], ◌∷◌, Option, length, refl, ap, arith}
-use Rattle.std.specs.Prelude.{map, slice_get}
-use Rattle.std.specs.Option.{option_map}
+use Rattle.std.specs.Prelude.{map}
 use Rattle.std.proofs.lemmas.List.{length-map}
-use Rattle.std.proofs.lemmas.Option.{slice_get-map}
 use Rattle.pl_scope.proofs.MemberLaws.{length_walked, length_objects}
 use Rattle.pl_scope.proofs.WalkedLaws.{limit_is}
 use Rattle.pl_scope.specs.Members.{names}
@@ -17,10 +15,6 @@ use Rattle.pl_cone.specs.Candidates.{blocks}
 pub names_walked : (ms : List Member) → names (walked ms) ≡ map (λ m. m.name) ms
 names_walked [] = refl
 names_walked (m ∷ ms) = ap (λ (ns : List (List ℕ)). m.name ∷ ns) (names_walked ms)
-
--- the member of an index
-pub member_at : (ms : List Member) (i : ℕ) → slice_get (walked ms) i ≡ option_map (λ m. (m.name, m.object.now)) (slice_get ms i)
-member_at ms i = slice_get-map (λ (m : Member). (m.name, m.object.now)) ms i
 
 -- their thread-local storage
 pub blocks_are : (ms : List Member) → map (λ m. m.object.now.tls) ms ≡ blocks (walked ms)

@@ -1,5 +1,5 @@
 -- The names that a run prelinks: programs and libraries whose walk has no refusal, no member of which has a form fault, and, for a program, which link.
-use Rattle.std.specs.Prelude.{ℕ, ◌==◌, List, [], ◌∷◌, map, length, replicate, slice_get, Option, Some, None, Result, Ok, if◌then◌else◌}
+use Rattle.std.specs.Prelude.{ℕ, List, [], ◌∷◌, map, length, replicate, Option, Result, Ok, if◌then◌else◌}
 use Rattle.pl_base.specs.Answers.{◌>>=◌, because, unless, unless_found}
 use Rattle.pl_base.specs.Each.{run}
 use Rattle.pl_elf.specs.Kinds.{is_program, is_static}
@@ -9,13 +9,12 @@ use Rattle.pl_object.specs.declared.object.Object.{Object}
 use Rattle.pl_scope.specs.Members.{names}
 use Rattle.pl_scope.specs.Scope.{objects}
 use Rattle.pl_scope.specs.Walk.{Walked, walk}
-use Rattle.pl_sym.specs.declared.symbol.Symbol.{Symbol}
 use Rattle.pl_tls.specs.Layout.{offsets}
 use Rattle.pl_tls.specs.declared.block.Block.{Block}
 use Rattle.pl_tls.specs.declared.module.Module.{Module}
+use Rattle.pl_value.specs.LinkNames.{named_fault}
 use Rattle.pl_value.specs.Meanings.{meanings}
 use Rattle.pl_value.specs.declared.fault.LinkFault.{LinkFault}
-use Rattle.pl_value.specs.declared.fault.LinkFault.TheVariants as link
 use Rattle.pl_cone.specs.Skips.{of_walk, of_tls}
 use Rattle.pl_cone.specs.declared.skip.Skip.{Skip}
 use Rattle.pl_cone.specs.declared.skip.Skip.TheVariants as skips
@@ -42,45 +41,9 @@ all_formed faults ns = run (λ u n. formed faults n) tt ns
 abbrev pub blocks : Walked → List (Option Block)
 blocks walked = map (λ o. o.tls) (objects walked)
 
-abbrev pub name_in : Option (List ℕ × Object) → List ℕ
-name_in None = []
-name_in (Some m) = m.0
-
--- the name of the member of an index
-abbrev pub name_at : Walked → ℕ → List ℕ
-name_at walked member = name_in (slice_get walked member)
-
-abbrev pub symbols_in : Option (List ℕ × Object) → List Symbol
-symbols_in None = []
-symbols_in (Some m) = m.1.symbols
-
-abbrev pub name_of_symbol : Option Symbol → Option (List ℕ)
-name_of_symbol None = None
-name_of_symbol (Some s) = Some s.name
-
--- the name of a symbol of the member of an index; symbol 0 stands for none
-unfoldable pub symbol_name : Walked → ℕ → ℕ → Option (List ℕ)
-symbol_name walked member symbol = if symbol == 0 then None else name_of_symbol (slice_get (symbols_in (slice_get walked member)) symbol)
-
--- the index of the member of a link refusal
-abbrev pub fault_member : LinkFault → ℕ
-fault_member (link.Undefined member symbol) = member
-fault_member (link.UndefinedTls member symbol) = member
-fault_member (link.TlsMismatch member symbol) = member
-fault_member (link.CopyOutside member symbol) = member
-
--- the index of its symbol, 0 for none
-abbrev pub fault_symbol : LinkFault → ℕ
-fault_symbol (link.Undefined member symbol) = symbol
-fault_symbol (link.UndefinedTls member symbol) = symbol
-fault_symbol (link.TlsMismatch member symbol) = symbol
-fault_symbol (link.CopyOutside member symbol) = symbol
-
+-- a link refusal, by names
 abbrev pub of_link : Walked → LinkFault → Skip
-of_link walked (link.Undefined member symbol) = skips.Undefined (name_at walked member) (symbol_name walked member symbol)
-of_link walked (link.UndefinedTls member symbol) = skips.UndefinedTls (name_at walked member) (symbol_name walked member symbol)
-of_link walked (link.TlsMismatch member symbol) = skips.TlsMismatch (name_at walked member) (symbol_name walked member symbol)
-of_link walked (link.CopyOutside member symbol) = skips.CopyOutside (name_at walked member) (symbol_name walked member symbol)
+of_link walked fault = skips.Link (named_fault walked fault)
 
 -- a place for each member. No link refusal asks where a member is loaded
 abbrev pub zeros : Walked → List ℕ

@@ -14,7 +14,6 @@ mod laws;
 mod link;
 mod linking;
 mod members;
-mod named;
 mod needs;
 mod one_word;
 mod plan;

@@ -13,7 +13,6 @@ ghost use Rattle.pl_value.specs.Definers.{IsSought};
 ghost use Rattle.pl_value.specs.Values.{reference};
 
 use crate::members::{modules_of, sought};
-use crate::named::of_link;
 use crate::one_word::gives_one_word;
 use crate::pushing::push_some;
 use crate::values::{WalkLinking, first_found, others_have_values};
@@ -22,7 +21,7 @@ use pl_base::{Rows, Text};
 use pl_io::NoMemory;
 use pl_object::Reloc;
 use pl_scope::{Found, Index, Scope};
-use pl_value::{OrdinaryFault, reference_of};
+use pl_value::{LinkFault, OrdinaryFault, named_fault, reference_of};
 use std::alloc::{AllocError, Global};
 
 /// The files of a folder with their walks, and the index of what they define.
@@ -127,12 +126,20 @@ pub fn library_link(alloc: Global, own: &WalkScope<'_>, index: &Index) -> Result
     })
 }
 
+/// A link refusal, by names.
+fn of_link(alloc: Global, scope: &Scope<'_>, fault: LinkFault) -> Result<Skip, AllocError>
+    ensures { IfOk result (λ skip. skip ≡ candidates.of_link scope.now fault) }
+{
+    let named = named_fault(alloc, scope.members(), fault)?;
+    Ok(Skip::Link(named))
+}
+
 /// A refusal of a program's relocations, by names.
 fn refused(alloc: Global, scope: &Scope<'_>, fault: OrdinaryFault) -> Result<Skip, AllocError>
     ensures { IfOk result (λ skip. skip ≡ by_walk.of_ordinary scope.now fault) }
 {
     match fault {
-        OrdinaryFault::Link(fault) => of_link(alloc, scope.members(), fault),
+        OrdinaryFault::Link(fault) => of_link(alloc, scope, fault),
         OrdinaryFault::NoMemory => Ok(Skip::NoMemory),
     }
 }
@@ -164,7 +171,7 @@ fn others_linked(
 {
     match others_have_values(linking, walk, links) {
         Ok(()) => Ok(()),
-        Err(fault) => Err(of_link(alloc, linking.scope.members(), fault)?),
+        Err(fault) => Err(of_link(alloc, linking.scope, fault)?),
     }
 }
 

@@ -4,6 +4,7 @@ ghost use Rattle.std.specs.Option.{option_map};
 
 use pl_base::{Rows, Text};
 use pl_loader::LoadFault;
+use pl_value::NamedFault;
 use std::alloc::{AllocError, Global};
 
 fn copy_of(alloc: Global, text: &Text) -> Result<Text, AllocError>
@@ -37,6 +38,17 @@ fn copy_symbol(alloc: Global, symbol: &Option<Rows<u8>>) -> Result<Option<Rows<u
     }
 }
 
+/// A copy of a link refusal.
+fn copy_link(alloc: Global, fault: &NamedFault) -> Result<NamedFault, AllocError>
+    ensures { IfOk result (λ copy. copy ≡ fault.now) }
+{
+    Ok(NamedFault {
+        cause: fault.cause,
+        object: copy_of(alloc, &fault.object)?,
+        symbol: copy_symbol(alloc, &fault.symbol)?,
+    })
+}
+
 /// A copy of a fault.
 pub fn copy_fault(alloc: Global, fault: &LoadFault) -> Result<LoadFault, AllocError>
     ensures { IfOk result (λ copy. copy ≡ fault.now) }
@@ -58,22 +70,7 @@ pub fn copy_fault(alloc: Global, fault: &LoadFault) -> Result<LoadFault, AllocEr
         LoadFault::TooMany(name) => Ok(LoadFault::TooMany(copy_of(alloc, name)?)),
         LoadFault::TlsTooLarge => Ok(LoadFault::TlsTooLarge),
         LoadFault::NoPlace(name) => Ok(LoadFault::NoPlace(copy_of(alloc, name)?)),
-        LoadFault::Undefined { object, symbol } => Ok(LoadFault::Undefined {
-            object: copy_of(alloc, object)?,
-            symbol: copy_symbol(alloc, symbol)?,
-        }),
-        LoadFault::UndefinedTls { object, symbol } => Ok(LoadFault::UndefinedTls {
-            object: copy_of(alloc, object)?,
-            symbol: copy_symbol(alloc, symbol)?,
-        }),
-        LoadFault::TlsMismatch { object, symbol } => Ok(LoadFault::TlsMismatch {
-            object: copy_of(alloc, object)?,
-            symbol: copy_symbol(alloc, symbol)?,
-        }),
-        LoadFault::CopyOutside { object, symbol } => Ok(LoadFault::CopyOutside {
-            object: copy_of(alloc, object)?,
-            symbol: copy_symbol(alloc, symbol)?,
-        }),
+        LoadFault::Link(fault) => Ok(LoadFault::Link(copy_link(alloc, fault)?)),
         LoadFault::NoMemory => Ok(LoadFault::NoMemory),
     }
 }
