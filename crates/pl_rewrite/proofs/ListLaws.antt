@@ -113,11 +113,6 @@ pub later_distinct : (r : Firm) (rs : List Firm) → AreSources (r ∷ rs) → I
 unfolding IsDistinct
 later_distinct r rs are = are.distinct.1
 
--- there is none without a first
-pub list_none : (rs : List Firm) → length rs < 1 → [] ≡ list_after rs
-list_none [] none = refl
-list_none (r ∷ rs) none = absurd (omega (arith, none))
-
 -- ---- how long the strings are
 
 most_is : MAX_NAME ≡ 255
