@@ -10,7 +10,7 @@ use Rattle.pl_form.specs.declared.version.Version.{Version}
 use Rattle.pl_form.proofs.AlignLaws.{align_even, slot_even}
 use Rattle.pl_lists.specs.declared.list_row.ListRow.{ListRow}
 use Rattle.pl_object.specs.declared.object.Object.{Object}
-use Rattle.pl_rewrite.specs.Forms.{HasFormWith, HasNumbers, IsLibraryWalk, file_with, list_after, words_in}
+use Rattle.pl_rewrite.specs.Forms.{HasFormWith, HasNumbers, IsLibraryWalk, file_with}
 use Rattle.pl_rewrite.specs.Sources.{AreSources, firm}
 use Rattle.pl_rewrite.proofs.FirmLaws.{own_all, version_back}
 use Rattle.pl_rewrite.proofs.ListLaws.{listing}
