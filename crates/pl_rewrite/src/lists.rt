@@ -7,7 +7,6 @@ ghost use Rattle.pl_form.specs.Files.{original_in};
 ghost use Rattle.pl_form.specs.Words.{checksum_of};
 ghost use Rattle.pl_rewrite.specs.Rows as spec;
 ghost use Rattle.pl_rewrite.specs.Digests as told;
-ghost use Rattle.sha2.specs.Sha256.{sha256};
 
 use crate::numbers::Numbered;
 use pl_base::{Rows, Text, word32};
