@@ -7,7 +7,6 @@ ghost use Rattle.pl_form.specs.Files.{original_in};
 ghost use Rattle.pl_form.specs.Words.{checksum_of};
 ghost use Rattle.pl_rewrite.specs.Rows as spec;
 ghost use Rattle.pl_rewrite.specs.Digests as told;
-ghost use Rattle.sha2.specs.Sha256.{sha256};
 
 use crate::numbers::Numbered;
 use pl_base::{Rows, Text, word32};
@@ -50,8 +49,9 @@ pub fn digest_at(files: &[Taken], digests: &[Option<[u8; 32]>], row: usize) -> [
     requires digests { told.AreDigests files.now digests.now }
     ensures { told.IsDigestAt files.now row result }
 {
+    let taken = &files[row];
     match digests[row] {
-        None => digest_of(files[row].original()),
+        None => digest_of(taken.original()),
         Some(digest) => digest,
     }
 }

@@ -18,7 +18,7 @@ mod word;
 
 pub use collecting::meanings;
 pub use fault::{LinkFault, OrdinaryFault};
-pub use images::{load, ordinary, patches};
+pub use images::{load, ordinary, patches, words};
 pub use law::meanings_fit;
 pub use meaning::Meaning;
 pub use places::Places;
