@@ -22,6 +22,7 @@ use Rattle.pl_rewrite.specs.Digests.{AreDigests, AreFilesRead, IsChecksumAt, IsD
 use Rattle.pl_rewrite.specs.Rows.{IsFirmAt, IsNumbered, firms_of, number_at, walk_of}
 use Rattle.pl_rewrite.specs.declared.numbers.Numbered.{Numbered}
 use Rattle.pl_rewrite.proofs.FirmRowLaws.{row_of}
+use Rattle.sha2.proofs.Facts256.{length-sha256}
 use Rattle.sha2.specs.Sha256.{sha256}
 
 -- ---- files that are read
@@ -58,6 +59,10 @@ pub digest_told : (ts : List Taken) (ds : List (Option (List ℕ))) (row : ℕ) 
 digest_told ts ds row d e all lt is = λ u at.
     let there : get_or ts row u ≡ u = same_Some (get_or ts row u) u (sym (slice_get-get_or ts row u lt) ∙ at) in
     subst (λ (x : Taken). IsDigestOf x (Some d)) there (subst (λ (o : Option (List ℕ)). IsDigestOf (get_or ts row u) o) is (zip_at IsDigestOf ts ds row u e all lt))
+
+-- the digest of a row that is there has 32 bytes
+pub digest_long : (ts : List Taken) (row : ℕ) (t : Taken) (d : List ℕ) → row < length ts → IsDigestAt ts row d → length d ≡ 32
+digest_long ts row t d lt is = ap length (is (get_or ts row t) (slice_get-get_or ts row t lt)) ∙ length-sha256 (original_in (get_or ts row t).bytes)
 
 -- ---- checksums
 

@@ -29,6 +29,7 @@ use Rattle.pl_value.specs.Laws.{AreRead}
 use Rattle.pl_value.specs.Meanings as value
 use Rattle.pl_value.specs.Meanings.{is_memory, meaning, meanings}
 use Rattle.pl_value.specs.Ordinary.{ArePlaced, loaded_objects}
+use Rattle.pl_value.specs.Values.{relocations_in}
 use Rattle.pl_value.specs.declared.fault.LinkFault.{LinkFault}
 use Rattle.pl_value.specs.declared.fault.OrdinaryFault.{OrdinaryFault}
 use Rattle.pl_value.specs.declared.fault.OrdinaryFault.TheVariants.{Link}
@@ -38,7 +39,7 @@ use Rattle.pl_rewrite.specs.Contents.{HasContents, IsLinkingOfRow, IsProgramRow,
 use Rattle.pl_rewrite.specs.Copies.{AreFillsOf, AreProgramFills, IsFilling, IsPlacedRow}
 use Rattle.pl_rewrite.specs.Fills.{IsProgramSet, conflicts_with}
 use Rattle.pl_rewrite.specs.Ranges.{ranges_of}
-use Rattle.pl_rewrite.specs.RemainingRows.{AreConflictRows, AreNear, CanListRows, FindFirst, GivesFirst, RefusesAll, all_given, given_in, is_near_word, relocs_of}
+use Rattle.pl_rewrite.specs.RemainingRows.{AreConflictRows, AreNear, CanListRows, FindFirst, GivesFirst, RefusesAll, all_given, given_in, is_near_word}
 use Rattle.pl_rewrite.specs.Rows.{IsFirmAt, IsNumbered, firms_of, of_firm, walk_of}
 use Rattle.pl_rewrite.specs.Sources.{AreSources, AreVersionsOf}
 use Rattle.pl_rewrite.specs.declared.copies.Filling.{Filling}
@@ -108,7 +109,7 @@ module _ (w : Work) (row : ℕ) (l : WalkLinking) (work : IsWork w) (program : I
 
   own_given : (own : List Meaning) → GivesFirst l (Ok own) → (o : Object) → slice_get (links.objects_of l) 0 ≡ Some o → given_in l 0 o.relocations ≡ Ok own
   own_given own gives o at =
-      because_ok Link (given_in l 0 o.relocations) own (subst (λ (x : Option Object). because Link (given_in l 0 (relocs_of x)) ≡ Ok own) at gives)
+      because_ok Link (given_in l 0 o.relocations) own (subst (λ (x : Option Object). because Link (given_in l 0 (relocations_in x)) ≡ Ok own) at gives)
 
   pub can_list : (walk : List ℕ) (own : List Meaning) → walk ≡ walk_of n row → GivesFirst l (Ok own) → CanListRows l walk w.row_words.now own
   can_list walk own is gives = subst (λ (ks : List ℕ). CanListRows l ks w.row_words.now own) (sym is) (record {
@@ -122,7 +123,7 @@ module _ (w : Work) (row : ℕ) (l : WalkLinking) (work : IsWork w) (program : I
   -- ---- what is refused
 
   pub own_refused : (o : Object) (e : OrdinaryFault) → slice_get (links.objects_of l) 0 ≡ Some o → GivesFirst l (Err e) → RefusesAll l e
-  own_refused o e at gives = first_stops l o e at (subst (λ (x : Option Object). Answers is_memory (Err e) (because Link (given_in l 0 (relocs_of x)))) at gives)
+  own_refused o e at gives = first_stops l o e at (subst (λ (x : Option Object). Answers is_memory (Err e) (because Link (given_in l 0 (relocations_in x)))) at gives)
 
   -- ---- what is made
 

@@ -25,7 +25,7 @@ use Rattle.pl_object.specs.declared.object.Object.{Object}
 use Rattle.pl_object.specs.declared.reloc.Reloc.{Reloc}
 use Rattle.pl_rewrite.specs.Held.{AreHeld}
 use Rattle.pl_rewrite.specs.Rows.{IsFirmAt, IsNumbered, IsWalkRow, firm_at, firm_by, firms_of, is_library_row, of_firm, places_of, walk_of}
-use Rattle.pl_rewrite.specs.RowWords.{AreHeldAt, AreOfRow, FindsRow, IsLinkAt, AreRowWordsAt, AreRowWordsBy, RowWordsTo, is_asked, is_needed, own_words_at}
+use Rattle.pl_rewrite.specs.RowWords.{AreHeldAt, AreOfRow, FindsRow, IsLinkAt, AreRowWordsAt, AreRowWordsBy, RowWordsTo, is_asked, is_needed, is_set, own_words_at}
 use Rattle.pl_rewrite.specs.Sources.{AreSources}
 use Rattle.pl_rewrite.specs.declared.held.HeldWord.{HeldWord}
 use Rattle.pl_rewrite.specs.declared.numbers.Numbered.{Numbered}
@@ -35,6 +35,7 @@ use Rattle.pl_rewrite.proofs.FirmLaws.{own_all}
 use Rattle.pl_rewrite.proofs.FirmRowLaws.{firm_objects, firm_slots, firms_named, named_of}
 use Rattle.pl_rewrite.proofs.LibraryLaws.{words_count}
 use Rattle.pl_rewrite.proofs.NewLibraryLaws.{first_is, library_firm}
+use Rattle.pl_rewrite.proofs.RowByRowLaws.{each_pushed}
 use Rattle.pl_rewrite.proofs.RowTestLaws.{firm_of_file, firm_there}
 use Rattle.pl_scope.specs.Scope.{objects}
 use Rattle.pl_scope.specs.declared.index.Entry.{Entry}
@@ -106,10 +107,7 @@ held_at n row t o original words remaining held at is bytes own all = λ r e.
 -- ---- what is asked
 
 pub asked_is : (flags : List Bool) (row : ℕ) (d : Bool) → row < length flags → get_or flags row d ≡ is_asked flags row
-asked_is flags row d lt = sym (rw (slice_get-get_or flags row d lt) refl)
-
-pub needed_by : (asked : Needed) (row : ℕ) (made held : Bool) → made ≡ is_asked asked.made.now row → held ≡ is_asked asked.held.now row → (made || held) ≡ is_needed asked row
-needed_by asked row made held one two = rw (one, two) refl
+asked_is flags row d lt = sym (ap is_set (slice_get-get_or flags row d lt))
 
 -- ---- a link
 
@@ -174,32 +172,12 @@ library_row n row t b at is = by_entry n row t t.entry refl at ∙ sym is
     by_entry n row t BadMark same at = rw (at, same) refl
     by_entry n row t (Refused number argument) same at = rw (at, same) refl
 
-front_same : (xs ys : List RowWords) (i : ℕ) → i < length xs → slice_get (xs ++ ys) i ≡ slice_get xs i
-front_same [] ys i lt = absurd (omega (arith, lt))
-front_same (x ∷ xs) ys zero lt = refl
-front_same (x ∷ xs) ys (suc i) lt = front_same xs ys i (omega (arith, lt))
-
-last_is : (xs : List RowWords) (y : RowWords) (i : ℕ) (x : RowWords) → length xs ≤ i → slice_get (xs ++ y ∷ []) i ≡ Some x → (i ≡ length xs) × (y ≡ x)
-last_is [] y zero x le at = (refl, same_Some y x at)
-last_is [] y (suc i) x le at = absurd (none-some x at)
-last_is (z ∷ xs) y zero x le at = absurd (omega (arith, le))
-last_is (z ∷ xs) y (suc i) x le at = let later = last_is xs y i x (omega (arith, le)) at in (ap suc later.0, later.1)
-
-pushed : (n : Numbered) (asked : Needed) (all : List RowWords) (s : RowWords) → AreRowWordsAt n (length all) asked s → RowWordsTo n asked all → RowWordsTo n asked (all ++ s ∷ [])
-pushed n asked all s one so_far = λ row x at. elim (cases_lt row (length all)) [
-  | inl lt ↦ so_far row x (sym (front_same all (s ∷ []) row lt) ∙ at)
-  | inr le ↦
-      let last = last_is all s row x le at in
-      subst (λ (k : ℕ). AreRowWordsAt n k asked x) (sym last.0) (subst (AreRowWordsAt n (length all) asked) last.1 one)
-]
-
-pub row_words_more : (n : Numbered) (asked : Needed) (all after : List RowWords) (s : RowWords) (link : Link) → (is_needed asked (length all) ≡ true → IsLinkAt n (length all) link) → AreRowWordsBy n (length all) asked link s → after ≡ all ++ s ∷ [] → RowWordsTo n asked all → RowWordsTo n asked after
-row_words_more n asked all after s link is by more so_far = subst (RowWordsTo n asked) (sym more) (pushed n asked all s (record { link = link; is = is; by = by }) so_far)
-
 pub row_words_none : (n : Numbered) (asked : Needed) (all : List RowWords) → all ≡ [] → RowWordsTo n asked all
 row_words_none n asked all none = subst (RowWordsTo n asked) (sym none) (λ row s at. absurd (none-some s at))
 
--- the same, where the row is counted
+-- those of one more
 pub row_words_next : (n : Numbered) (asked : Needed) (all after : List RowWords) (s : RowWords) (link : Link) (row : ℕ) → row ≡ length all → (is_needed asked row ≡ true → IsLinkAt n row link) → AreRowWordsBy n row asked link s → after ≡ all ++ s ∷ [] → RowWordsTo n asked all → RowWordsTo n asked after
 row_words_next n asked all after s link row same is by more so_far =
-    row_words_more n asked all after s link (λ need. subst (λ (k : ℕ). IsLinkAt n k link) same (is (ap (λ (k : ℕ). is_needed asked k) same ∙ need))) (subst (λ (k : ℕ). AreRowWordsBy n k asked link s) same by) more so_far
+    let here : AreRowWordsAt n row asked s = record { link = link; is = is; by = by } in
+    let one : AreRowWordsAt n (length all) asked s = subst (λ (k : ℕ). AreRowWordsAt n k asked s) same here in
+    each_pushed (λ (k : ℕ) (x : RowWords). AreRowWordsAt n k asked x) all after s more one so_far

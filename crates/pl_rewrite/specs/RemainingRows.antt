@@ -25,6 +25,7 @@ use Rattle.pl_scope.specs.declared.found.Found.{Found}
 use Rattle.pl_value.specs.Meanings.{is_memory, meaning, meanings, row}
 use Rattle.pl_value.specs.Ordinary.{loaded_objects}
 use Rattle.pl_value.specs.Targets.{base_of}
+use Rattle.pl_value.specs.Values.{relocations_in}
 use Rattle.pl_value.specs.declared.fault.LinkFault.{LinkFault}
 use Rattle.pl_value.specs.declared.fault.OrdinaryFault.{OrdinaryFault}
 use Rattle.pl_value.specs.declared.fault.OrdinaryFault.TheVariants.{Link}
@@ -57,16 +58,12 @@ is_put Nothing = false
 abbrev pub FindFirst : WalkLinking → List (Option Found) → Type 0
 FindFirst l found = FindAll (objects_of l) found
 
-abbrev pub relocs_of : Option Object → List Reloc
-relocs_of None = []
-relocs_of (Some o) = o.relocations
-
 -- what these relocations of it give, or the first refusal
 abbrev pub GivesOf : WalkLinking → List Reloc → Result (List Meaning) OrdinaryFault → Type 0
 GivesOf l rs result = Answers is_memory result (because Link (given_in l 0 rs))
 
 abbrev pub GivesFirst : WalkLinking → Result (List Meaning) OrdinaryFault → Type 0
-GivesFirst l result = GivesOf l (relocs_of (slice_get (objects_of l) 0)) result
+GivesFirst l result = GivesOf l (relocations_in (slice_get (objects_of l) 0)) result
 
 -- ---- another member
 

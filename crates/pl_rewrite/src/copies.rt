@@ -2,7 +2,6 @@
 ghost use Rattle.std.specs.Prelude.{◌≡◌, ◌<◌, IfOk, OnOk, length};
 ghost use Rattle.pl_rewrite.specs.Copies as spec;
 ghost use Rattle.pl_rewrite.specs.Rows as rows;
-ghost use Rattle.pl_value.specs.Linked.{put_of, words};
 
 use crate::numbers::Numbered;
 use pl_base::Rows;
@@ -12,36 +11,6 @@ use pl_image::{LoadedObject, Patch, load_object};
 use pl_object::Reloc;
 use pl_value::{Meaning, Word, read};
 use std::alloc::{AllocError, Global};
-
-// ---- words as patches
-
-/// A word as a patch, where there is one.
-#[tactic(auto, using(pl_base::proofs::WordLaws::bytes64_std))]
-fn patch_of(alloc: Global, meaning: &Meaning) -> Result<Option<Patch>, AllocError>
-    ensures { IfOk result (λ patch. patch ≡ put_of meaning.now.start meaning.now.word) }
-{
-    match meaning.word {
-        Word::Put(word) => Ok(Some(Patch {
-            address: meaning.start,
-            bytes: word.to_le_bytes().to_vec(alloc)?,
-        })),
-        _ => Ok(None),
-    }
-}
-
-/// The words that are given, as patches.
-#[tactic(auto, unfolding(pl_value::specs::Linked::words))]
-pub fn patches_of(alloc: Global, meanings: &[Meaning]) -> Result<Vec<Patch>, AllocError>
-    ensures { IfOk result (λ v. v.items ≡ words meanings.now) }
-{
-    let mut patches = Vec::new(alloc);
-    for meaning in meanings {
-        if let Some(patch) = patch_of(alloc, meaning)? {
-            patches.push(patch)?;
-        }
-    }
-    Ok(patches)
-}
 
 // ---- copies
 

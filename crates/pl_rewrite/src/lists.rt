@@ -12,22 +12,35 @@ ghost use Rattle.sha2.specs.Sha256.{sha256};
 use crate::numbers::Numbered;
 use pl_base::{Rows, Text, word32};
 use pl_cone::Taken;
-use pl_form::digest_of;
+use pl_form::{digest_of, original_digest};
 use pl_lists::ListRow;
 use std::alloc::{AllocError, Global};
 
 /// The SHA-256 of originals, by their rows, where they are asked for; each is made once.
 pub type Digests = Vec<Option<[u8; 32]>>;
 
-/// The SHA-256 of a file's original, if it is asked for.
-fn digest_if(taken: &Taken, asked: bool) -> Option<[u8; 32]>
+/// The SHA-256 of a file's original. That of a prelinked file is not made again where the file keeps it.
+fn own_digest(alloc: Global, taken: &Taken) -> Result<[u8; 32], AllocError>
     requires { HasItsEntry taken.now }
-    ensures { told.IsDigestOf taken.now result }
+    ensures { IfOk result (λ digest. digest ≡ sha256 (original_in taken.now.bytes)) }
+{
+    let bytes = taken.bytes.as_slice();
+    match taken.marked() {
+        None => Ok(digest_of(bytes)),
+        Some(marked) => Ok(original_digest(alloc, bytes, marked)?),
+    }
+}
+
+/// The SHA-256 of a file's original, if it is asked for.
+fn digest_if(alloc: Global, taken: &Taken, asked: bool) -> Result<Option<[u8; 32]>, AllocError>
+    requires { HasItsEntry taken.now }
+    ensures { IfOk result (λ digest. told.IsDigestOf taken.now digest) }
 {
     if !asked {
-        return None;
+        return Ok(None);
     }
-    Some(digest_of(taken.original()))
+    let digest = own_digest(alloc, taken)?;
+    Ok(Some(digest))
 }
 
 /// The SHA-256 of the original of each flagged file.
@@ -38,7 +51,8 @@ pub fn digests_of(alloc: Global, files: &[Taken], asked: &[bool]) -> Result<Dige
 {
     let mut digests = Vec::new(alloc);
     for row in 0..files.len() {
-        digests.push(digest_if(&files[row], asked[row]))?;
+        let digest = digest_if(alloc, &files[row], asked[row])?;
+        digests.push(digest)?;
     }
     Ok(digests)
 }
@@ -50,8 +64,9 @@ pub fn digest_at(files: &[Taken], digests: &[Option<[u8; 32]>], row: usize) -> [
     requires digests { told.AreDigests files.now digests.now }
     ensures { told.IsDigestAt files.now row result }
 {
+    let taken = &files[row];
     match digests[row] {
-        None => digest_of(files[row].original()),
+        None => digest_of(taken.original()),
         Some(digest) => digest,
     }
 }

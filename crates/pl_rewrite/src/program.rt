@@ -1,7 +1,5 @@
 // The prelinked file of a program.
 ghost use Rattle.std.specs.Prelude.{◌≡◌, ◌<◌, true, IfOk, length};
-ghost use Rattle.pl_cone.specs.Links.{IsLinking};
-ghost use Rattle.pl_rewrite.specs.RemainingRows as found_rows;
 ghost use Rattle.pl_rewrite.specs.Rows as spec;
 ghost use Rattle.pl_conflict.specs.Prelinked.{are_set};
 ghost use Rattle.pl_rewrite.specs.Contents as contents;
@@ -9,21 +7,18 @@ ghost use Rattle.pl_rewrite.specs.Fills.{AreFirstFills};
 
 use crate::apart::are_set;
 use crate::conflict::{RemainingRows, remaining_rows};
-use crate::copies::{Filling, fills_of, patches_of};
+use crate::copies::{Filling, fills_of};
 use crate::given::own_meanings;
 use crate::lists::{digest_at, list_of};
 use crate::numbers::{Numbered, PlacedWalk};
 use crate::outcome::NewProgram;
 use crate::row_words::RowWords;
-use pl_base::Rows;
 use pl_cone::{WalkLinking, modules_of};
 use pl_form::{Fill, FormFault, Version, form_program_with};
 use pl_io::NoMemory;
 use pl_lists::ConflictRow;
-use pl_object::Reloc;
-use pl_scope::Found;
 use pl_tls::{Module, TlsFault};
-use pl_value::{LinkFault, Meaning, OrdinaryFault, word_of};
+use pl_value::{OrdinaryFault, words};
 use std::alloc::Global;
 
 /// What the files of programs are made of: the files with their numbers, what their relocations find and hold, and the digests of originals, by rows.
@@ -60,7 +55,7 @@ fn contents_of(
     let own = meanings.as_slice();
     let made = remaining_rows(alloc, linking, walk, work.row_words, own)?;
     let RemainingRows { rows, near } = made;
-    let patches = patches_of(alloc, &near)?;
+    let patches = words(alloc, &near)?;
     let filling = Filling {
         numbered: work.numbered,
         walk,

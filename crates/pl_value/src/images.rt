@@ -53,9 +53,9 @@ fn word_patch(alloc: Global, meaning: &Meaning) -> Result<Option<Patch>, AllocEr
     }
 }
 
-/// The words for their places, in the order of the relocations.
+/// The words that relocations give, for their places, in the order of the relocations; those that give none are left out. It fails only for want of memory.
 #[tactic(auto, unfolding(crate::specs::Linked::words))]
-fn words(alloc: Global, meanings: &[Meaning]) -> Result<Vec<Patch>, AllocError>
+pub fn words(alloc: Global, meanings: &[Meaning]) -> Result<Vec<Patch>, AllocError>
     ensures { IfOk result (λ v. v.items ≡ linked.words meanings.now) }
 {
     let mut patches = Vec::new(alloc);

@@ -19,7 +19,7 @@ mod word;
 
 pub use collecting::meanings;
 pub use fault::{LinkFault, OrdinaryFault};
-pub use images::{load, ordinary, patches};
+pub use images::{load, ordinary, patches, words};
 pub use law::meanings_fit;
 pub use link_names::{LinkCause, NamedFault, named_fault};
 pub use meaning::Meaning;

@@ -13,5 +13,6 @@ returns-then-not-is_library c =
 
 pub returns : goal.returns
 returns c =
+    let place = c.from.ensures ∙ column_at c.args.numbered.now.places.now c.args.row 0 (omega (arith, c.requires.row, c.requires.numbered.places)) in
     c.in_ok-push.ensures.items ∙ ap (λ (w : Window). c.args.windows.now.items ++ w ∷ []) c.new-window.ensures
-    ∙ ap (λ (ws : List Window). c.args.windows.now.items ++ ws) (sym (windows_library c.args.numbered.now c.args.row _ c.in-Some.object.now _ (file_or c.args.numbered.now c.args.row c.index-numbered-row.result c.requires.row) c.in-Some.ensures (sym c.is_library.ensures ∙ c.if-not-is_library.false) (column_at c.args.numbered.now.places.now c.args.row _ (omega (arith, c.requires.row, c.requires.numbered.places)))))
+    ∙ ap (λ (ws : List Window). c.args.windows.now.items ++ ws) (sym (windows_library c.args.numbered.now c.args.row _ c.in-Some.object.now c.from.result (file_or c.args.numbered.now c.args.row c.index-numbered-row.result c.requires.row) c.in-Some.ensures (sym c.is_library.ensures ∙ c.if-not-is_library.false) place))

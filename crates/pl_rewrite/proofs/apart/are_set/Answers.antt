@@ -9,6 +9,9 @@ use Rattle.pl_rewrite.proofs.apart.are_set.Goals as goal
 pub returns-in_default : goal.returns-in_default
 returns-in_default c = set_none c.args.numbered.now c.args.row c.walk-walk.result.now c.walk-walk.ensures c.in_default.len_below c.requires.rows
 
+pub all_have_numbers-requires-clause-rows : goal.all_have_numbers-requires-clause-rows
+all_have_numbers-requires-clause-rows c = rw c.walk-walk.ensures c.requires.rows.within
+
 pub all_have_numbers-requires-clause-aligned : goal.all_have_numbers-requires-clause-aligned
 all_have_numbers-requires-clause-aligned c = rw c.walk-walk.ensures (all_aligned c.args.numbered.now c.args.row c.requires.rows c.requires.sources)
 
@@ -16,6 +19,9 @@ pub returns-then-not-all_have_numbers : goal.returns-then-not-all_have_numbers
 returns-then-not-all_have_numbers c =
     set_walk c.args.numbered.now c.args.row c.walk-walk.result.now false (not (any_share (flat_map (windows_of c.args.numbered.now) c.walk-walk.result.now))) (list_all (is_named_well c.args.numbered.now) (take (length c.walk-walk.result.now - 1) (drop 1 c.walk-walk.result.now))) c.walk-walk.ensures c.in-len1-up.len_at_least c.requires.rows c.requires.sources
     (sym c.if-not-all_have_numbers.true ∙ c.all_have_numbers.ensures) refl refl
+
+pub are_apart-requires-clause-rows : goal.are_apart-requires-clause-rows
+are_apart-requires-clause-rows c = rw c.walk-walk.ensures c.requires.rows.within
 
 pub returns-then-not-apart : goal.returns-then-not-apart
 returns-then-not-apart c =

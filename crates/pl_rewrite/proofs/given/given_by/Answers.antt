@@ -1,4 +1,4 @@
-use Rattle.std.proofs.Common.{◌<◌, ap, length, sym, ◌∙◌, arith}
+use Rattle.std.proofs.Common.{◌<◌, ap, length, arith}
 use Rattle.std.proofs.lemmas.Result.{err_from_is_err_and}
 use Rattle.std.proofs.lemmas.Slice.Zip.{AllZip-long}
 use Rattle.pl_base.specs.Answers.{because}
@@ -37,4 +37,4 @@ loop-index-preserved c =
     reloc_more (meaning (objects_of c.args.linking.now) c.args.linking.now.places.now c.args.linking.now.modules.now) 0 c.args.relocs.now c.loop-index.index _ c.loop-index.all _ _ _ (omega arith) c.in_ok-meaning.ensures c.in_ok-push.ensures.ok c.loop-index.invariant
 
 pub returns : goal.returns
-returns c = sym (ap (because Link) (relocs_done (meaning (objects_of c.args.linking.now) c.args.linking.now.places.now c.args.linking.now.modules.now) 0 c.args.relocs.now c.loop-index.index c.loop-index.all _ (omega arith) c.loop-index.invariant))
+returns c = ap (because Link) (relocs_done (meaning (objects_of c.args.linking.now) c.args.linking.now.places.now c.args.linking.now.modules.now) 0 c.args.relocs.now c.loop-index.index c.loop-index.all _ (omega arith) c.loop-index.invariant)
