@@ -193,7 +193,8 @@ fn add_member(
     if ranges.is_empty() {
         return Ok(());
     }
-    add_near(linking, member, relocs, ranges, &mut found_rows.near)
+    add_near(linking, member, relocs, ranges, &mut found_rows.near)?;
+    Ok(())
 }
 
 /// Puts rows into ascending order of their addresses.
