@@ -16,7 +16,7 @@ use Rattle.pl_image.specs.Loads.{IsPlaced, loaded_at}
 use Rattle.pl_image.specs.declared.loaded_object.LoadedObject.{LoadedObject}
 use Rattle.pl_object.specs.declared.object.Object.{Object}
 use Rattle.pl_object.specs.declared.reloc.Reloc.{Reloc}
-use Rattle.pl_rewrite.specs.Copies.{AddsFill, AreCopied, FillsBy, FillsCopy, HasBytesAt, IsFill, IsFillAt, IsLoadedAt, IsPlacedRow, PutsFirst, loaded_for, place_of, given_places}
+use Rattle.pl_rewrite.specs.Copies.{AddsFill, AreBytesOf, AreCopied, FillsBy, FillsCopy, HasBytesAt, IsFill, IsFillAt, IsLoadedAt, IsPlacedRow, PutsFirst, loaded_for, place_of, given_places}
 use Rattle.pl_rewrite.specs.Rows.{IsFirmAt, IsNumbered, firm_by, number_at}
 use Rattle.pl_rewrite.specs.declared.copies.Filling.{Filling}
 use Rattle.pl_rewrite.specs.declared.numbers.Numbered.{Numbered}
@@ -41,6 +41,15 @@ pub loaded_some : (n : Numbered) (row : ℕ) (t : Taken) (o : Object) (original 
 loaded_some n row t o original place loaded at is bytes slot made = λ r e.
     let one : firm_by n row t o ≡ r = same_Some (firm_by n row t o) r (sym (firm_there n row t o at is) ∙ e) in
     ap (λ (l : LoadedObject). Some l) (made ∙ ap (λ (k : ℕ). loaded_at k original o) slot ∙ ap (λ (bs : List ℕ). loaded_at (number_at n.places.now row) bs o) bytes ∙ ap loaded_for one)
+
+pub bytes_none : (n : Numbered) (row : ℕ) (patches : List Fill) (from size : ℕ) (bytes : List ℕ) → IsLoadedAt n row None → AreBytesOf n row patches from size bytes
+bytes_none n row patches from size bytes none = λ r e. absurd (none-some (loaded_for r) (none r e))
+
+pub bytes_some : (n : Numbered) (row : ℕ) (l : LoadedObject) (patches : List Fill) (from size : ℕ) (bytes : List ℕ) → IsLoadedAt n row (Some l) → bytes ≡ read (filled (layered (all_pieces (l ∷ []))) patches) from size → AreBytesOf n row patches from size bytes
+bytes_some n row l patches from size bytes is made = λ r e.
+    let whole : all_pieces (l ∷ []) ≡ l.pieces = append-nil l.pieces in
+    let same : l ≡ loaded_for r = same_Some l (loaded_for r) (is r e) in
+    made ∙ ap (λ ps. read (filled (layered ps) patches) from size) (whole ∙ ap (λ (x : LoadedObject). x.pieces) same)
 
 -- ---- one relocation
 

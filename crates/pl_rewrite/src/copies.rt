@@ -1,5 +1,5 @@
 // The bytes at the places of a program: its own words, and what its copies read.
-ghost use Rattle.std.specs.Prelude.{◌≡◌, ◌<◌, IfOk, OnOk, length};
+ghost use Rattle.std.specs.Prelude.{◌≡◌, ◌<◌, IfOk, OnOk, drop, length, take};
 ghost use Rattle.pl_base.specs.Bytes.{bytes64};
 ghost use Rattle.pl_form.specs.Words.{has_place};
 ghost use Rattle.pl_rewrite.specs.Copies as spec;
@@ -56,17 +56,30 @@ fn bytes_of(
     }
 }
 
+/// So many of the first bytes, as far as there are any.
+fn first_bytes(bytes: &[u8], count: usize) -> &[u8]
+    ensures { result.now ≡ take count bytes.now }
+{
+    let at = count.min(bytes.len());
+    &bytes[..at]
+}
+
+/// The bytes after so many of the first.
+fn bytes_after(bytes: &[u8], count: usize) -> &[u8]
+    ensures { result.now ≡ drop count bytes.now }
+{
+    let at = count.min(bytes.len());
+    &bytes[at..]
+}
+
 /// Bytes with others written over the first of them.
 fn put_first(alloc: Global, bytes: &[u8], first: &[u8]) -> Result<Vec<u8>, AllocError>
     ensures { IfOk result (λ v. spec.PutsFirst first.now bytes.now v.items) }
 {
-    let count = if first.len() < bytes.len() {
-        first.len()
-    } else {
-        bytes.len()
-    };
-    let mut all = first[..count].to_vec(alloc)?;
-    all.extend_from_slice(&bytes[count..])?;
+    let over = first_bytes(first, bytes.len());
+    let rest = bytes_after(bytes, first.len());
+    let mut all = Vec::from_slice(alloc, over)?;
+    all.extend_from_slice(rest)?;
     Ok(all)
 }
 
