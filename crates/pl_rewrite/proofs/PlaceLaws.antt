@@ -2,7 +2,7 @@
 use Rattle.std.proofs.Common.{◌≡◌, ℕ, zero, suc, ◌+◌, ◌<◌, ◌≤◌, Bool, true, false, List, [], ◌∷◌, ◌++◌, length, take, drop, get_or, Option, Some, None, refl, sym, ap, subst, ◌∙◌, append_assoc, arith}
 use Rattle.std.specs.Prelude.{slice_get, if◌then◌else◌}
 use Rattle.std.specs.List.{AllZip}
-use Rattle.std.proofs.lemmas.List.{append-nil, take_all, take_more}
+use Rattle.std.proofs.lemmas.List.{append-nil, take_all}
 use Rattle.std.proofs.lemmas.Option.{none-some, same_Some}
 use Rattle.pl_base.specs.Memory.{Fill, filled, layered, read}
 use Rattle.pl_cone.specs.Taken.{object_by}
@@ -16,7 +16,7 @@ use Rattle.pl_image.specs.Loads.{IsPlaced, loaded_at}
 use Rattle.pl_image.specs.declared.loaded_object.LoadedObject.{LoadedObject}
 use Rattle.pl_object.specs.declared.object.Object.{Object}
 use Rattle.pl_object.specs.declared.reloc.Reloc.{Reloc}
-use Rattle.pl_rewrite.specs.Copies.{AddsFill, AreBytesOf, AreCopied, FillsBy, FillsCopy, HasBytesAt, IsFill, IsFillAt, IsLoadedAt, IsPlacedRow, PutsFirst, loaded_for, place_of, given_places}
+use Rattle.pl_rewrite.specs.Copies.{AddsFill, AreBytesOf, AreCopied, AreProgramFills, FillsBy, FillsCopy, HasBytesAt, IsFill, IsFillAt, IsLoadedAt, IsPlacedRow, PutsFirst, loaded_for, place_of, given_places}
 use Rattle.pl_rewrite.specs.Rows.{IsFirmAt, IsNumbered, firm_by, number_at}
 use Rattle.pl_rewrite.specs.declared.copies.Filling.{Filling}
 use Rattle.pl_rewrite.specs.declared.numbers.Numbered.{Numbered}
@@ -106,3 +106,8 @@ fills_more f rs gs i d e before after lt same adds so_far =
     subst (λ (ps : List (Reloc × Meaning)). AllZip (IsFill f) ps after) (sym (places_more rs gs i d e lt same))
     (subst (λ (fs : List form.Fill). AllZip (IsFill f) (given_places (take i rs) (take i gs) ++ place_of (get_or rs i d) (get_or gs i e)) fs) (sym adds.is)
     (zip_append (IsFill f) (given_places (take i rs) (take i gs)) before (place_of (get_or rs i d) (get_or gs i e)) adds.made so_far adds.fills))
+
+pub fills_done : (f : Filling) (rs : List Reloc) (gs : List Meaning) (i : ℕ) (fills : List form.Fill) → length rs ≤ i → length gs ≡ length rs → AllZip (IsFill f) (given_places (take i rs) (take i gs)) fills → AreProgramFills f rs gs fills
+fills_done f rs gs i fills le same zip =
+    subst (λ (xs : List Reloc). AllZip (IsFill f) (given_places xs gs) fills) (take_all i rs le)
+    (subst (λ (ys : List Meaning). AllZip (IsFill f) (given_places (take i rs) ys) fills) (take_all i gs (omega (arith, le, same))) zip)

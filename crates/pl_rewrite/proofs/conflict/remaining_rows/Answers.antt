@@ -22,6 +22,12 @@ loop-member-init c =
     first_listed c.args.linking.now c.args.walk.now c.args.row_words.now c.args.own.now (ranges_of c.args.own.now) c.new.result.items c.in_ok-own_near.field-0.items c.requires.row_words c.new.ensures.items
     (c.in_ok-own_near.ensures ∙ ap (λ (rs : List Range). filter (is_near_word rs) c.args.own.now) (c.deref.ensures.value ∙ c.in_ok-ranges.ensures))
 
+pub bounds-walk-member : goal.bounds-walk-member
+bounds-walk-member c = omega (arith, c.loop-member-test.true, c.count-member-end.ensures.count, length_objects c.args.linking.now.scope.now, c.requires.row_words.one_each)
+
+pub bounds-row_words-row : goal.bounds-row_words-row
+bounds-row_words-row c = c.requires.row_words.within c.loop-member.member 0 (omega (arith, c.loop-member-test.true, c.count-member-end.ensures.count, length_objects c.args.linking.now.scope.now, c.requires.row_words.one_each))
+
 pub add_member-requires-clause-held : goal.add_member-requires-clause-held
 add_member-requires-clause-held c = λ o at.
     let told = told_is c.args.walk.now c.args.row_words.now c.loop-member.member (get_or c.args.walk.now c.loop-member.member 0) c.index-row_words-row.result refl (c.requires.row_words.within c.loop-member.member 0 (omega (arith, c.loop-member-test.true, c.count-member-end.ensures.count, length_objects c.args.linking.now.scope.now, c.requires.row_words.one_each))) c.index-row_words-row.is ∙ ap (λ (s : RowWords). s.held) c.index-row_words-row.is ∙ sym c.as_slice-held.ensures in
