@@ -1,12 +1,11 @@
 // The faults of a recipe's lines.
-ghost use Rattle.std.specs.Prelude.{◌≡◌, ◌-◌, ◌<◌, ◌^◌, find, length, map};
+ghost use Rattle.std.specs.Prelude.{◌≡◌, ◌-◌, ◌<◌, ◌^◌, Some, find, length, map};
 ghost use Rattle.std.specs.List.{list_any};
 ghost use Rattle.std.specs.Option.{option_copied};
 ghost use Rattle.std.specs.Str.{bytes_eq};
 ghost use Rattle.pl_build.specs.Checks as spec;
 
 use crate::constants::{MAX_ADDEND, MAX_BSS, MAX_BUCKETS, MAX_DATA, MAX_SPARE};
-use crate::kind::FileKind;
 use crate::line::{Addend, Line, PackedWord, SymbolLine};
 use crate::names::is;
 use crate::relocation_lines::is_no_symbol;
@@ -29,13 +28,23 @@ fn is_first(line: &Line) -> bool
     matches!(line, Line::First(_))
 }
 
+/// Whether a line is the first one of the recipe of a static program.
+fn is_static_first(line: &Line) -> bool
+    ensures { result ≡ spec.is_static_first (Some line.now) }
+{
+    match line {
+        Line::First(kind) => kind.is_static(),
+        _ => false,
+    }
+}
+
 #[tactic(auto, unfolding(crate::specs::Checks::is_static_recipe))]
 fn is_static_recipe(lines: &[Line]) -> bool
     ensures { result ≡ spec.is_static_recipe lines.now }
 {
     match lines.get(0) {
-        Some(Line::First(FileKind::Static)) => true,
-        _ => false,
+        Some(line) => is_static_first(line),
+        None => false,
     }
 }
 

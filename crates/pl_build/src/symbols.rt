@@ -1,5 +1,5 @@
 // The order of the symbols.
-ghost use Rattle.std.specs.Prelude.{◌≡◌, ◌++◌, IfOk, filter};
+ghost use Rattle.std.specs.Prelude.{◌≡◌, ◌++◌, ◌∷◌, [], IfOk, filter};
 ghost use Rattle.pl_build.specs.Symbols as spec;
 
 use crate::line::SymbolLine;
@@ -56,6 +56,19 @@ pub fn copy_symbol(alloc: Global, symbol: &SymbolLine) -> Result<SymbolLine, All
     })
 }
 
+/// A copy of a symbol behind others.
+fn copied_behind(
+    alloc: Global,
+    to: Rows<SymbolLine>,
+    symbol: &SymbolLine,
+) -> Result<Rows<SymbolLine>, AllocError>
+    ensures { IfOk result (λ v. v ≡ to ++ symbol.now ∷ []) }
+{
+    let mut to = to;
+    to.push(copy_symbol(alloc, symbol)?)?;
+    Ok(to)
+}
+
 fn keep_undefined(
     alloc: Global,
     to: Rows<SymbolLine>,
@@ -64,11 +77,10 @@ fn keep_undefined(
     ensures { IfOk result (λ v. v ≡ spec.kept (spec.is_undefined symbol.now) symbol.now to) }
 {
     if symbol.defined {
-        return Ok(to);
+        Ok(to)
+    } else {
+        copied_behind(alloc, to, symbol)
     }
-    let mut to = to;
-    to.push(copy_symbol(alloc, symbol)?)?;
-    Ok(to)
 }
 
 fn undefined(alloc: Global, symbols: &[SymbolLine]) -> Result<Rows<SymbolLine>, AllocError>
@@ -91,12 +103,11 @@ fn keep_in(
     ensures { IfOk result (λ v. v ≡ spec.kept (spec.is_in settings.now number symbol.now) symbol.now
         to) }
 {
-    if !is_in(settings, number, symbol) {
-        return Ok(to);
+    if is_in(settings, number, symbol) {
+        copied_behind(alloc, to, symbol)
+    } else {
+        Ok(to)
     }
-    let mut to = to;
-    to.push(copy_symbol(alloc, symbol)?)?;
-    Ok(to)
 }
 
 fn with_bucket(

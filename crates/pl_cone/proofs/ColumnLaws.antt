@@ -20,13 +20,6 @@ pub record AreFirst (ts : List Taken) (i : ℕ) (w : FolderWalks) : Type 0 where
   pub causes : length w.causes ≡ i
   pub each : (k : ℕ) (t : Taken) (rows : List ℕ) (cause : Option Skip) → slice_get ts k ≡ Some t → slice_get w.walks k ≡ Some rows → slice_get w.causes k ≡ Some cause → IsWalkOfFile ts t rows cause
 
-pub none_first : (ts : List Taken) (w : FolderWalks) → w.walks ≡ [] → w.causes ≡ [] → AreFirst ts 0 w
-none_first ts w walks causes = record {
-  walks = ap length walks;
-  causes = ap length causes;
-  each = λ k t rows cause at row told. absurd (none-some rows (ap (λ (xs : List (List ℕ)). slice_get xs k) (sym walks) ∙ row));
-}
-
 -- the walk of one file more
 push_first : (ts : List Taken) (i : ℕ) (before after : FolderWalks) (rows : List ℕ) (cause : Option Skip) → after.walks ≡ before.walks ++ rows ∷ [] → after.causes ≡ before.causes ++ cause ∷ []
     → ((t : Taken) → slice_get ts i ≡ Some t → IsWalkOfFile ts t rows cause) → AreFirst ts i before → AreFirst ts (i + 1) after
@@ -60,11 +53,6 @@ first_more ts i (Ok rows) before after ok err adds first =
     push_first ts i before after rows None adds.0 adds.1 (λ t at. (ok.0, sym (walk_of_row ts i t at) ∙ ok.1)) first
 first_more ts i (Err skip) before after ok err adds first =
     push_first ts i before after [] (Some skip) adds.0 adds.1.0 (λ t at. (refl, sym (walk_of_row ts i t at) ∙ told_by skip (walk_at ts i) adds.1.1 err)) first
-
-pub first_all : (ts : List Taken) (i : ℕ) (w : FolderWalks) → length ts ≤ i → i ≤ length ts → AreFirst ts i w → AreWalks ts w
-first_all ts i w all some first =
-    let same : i ≡ length ts = omega arith in
-    record { walks = first.walks ∙ same; causes = first.causes ∙ same; each = first.each }
 
 -- ---- refusals
 

@@ -14,10 +14,6 @@ use Rattle.pl_scope.specs.declared.member.Member.{Member}
 use Rattle.pl_tls.specs.declared.block.Block.{Block}
 use Rattle.pl_cone.specs.Candidates.{blocks}
 
-pub names_walked : (ms : List Member) → names (walked ms) ≡ map (λ m. m.name) ms
-names_walked [] = refl
-names_walked (m ∷ ms) = ap (λ (ns : List (List ℕ)). m.name ∷ ns) (names_walked ms)
-
 -- the member of an index
 pub member_at : (ms : List Member) (i : ℕ) → slice_get (walked ms) i ≡ option_map (λ m. (m.name, m.object.now)) (slice_get ms i)
 member_at ms i = slice_get-map (λ (m : Member). (m.name, m.object.now)) ms i

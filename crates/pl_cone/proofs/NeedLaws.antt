@@ -48,9 +48,6 @@ slice_get_push (z ∷ xs) x y (suc i) is =
 
 -- ---- a map of names
 
-pub goes_on_refl : (names : List (List ℕ)) → KeepNumbers names names
-goes_on_refl names n name is = is
-
 pub goes_on_trans : (a b c : List (List ℕ)) → KeepNumbers a b → KeepNumbers b c → KeepNumbers a c
 goes_on_trans a b c first then n name is = then n name (first n name is)
 
@@ -167,9 +164,6 @@ tell_more names more needed told new i n name lt item on at made is =
     let front : take (i + 1) needed ≡ take i needed ++ name ∷ [] = take_more needed i name lt ∙ ap (λ (m : List ℕ). take i needed ++ m ∷ []) (sym item) in
     rw (front, made) (tell_push more (take i needed) told name n at (tell_on names more (take i needed) told on is))
 
-pub tell_none : (names : List (List ℕ)) → Tell names [] []
-tell_none names = record { within = All-nil (λ (k : ℕ). k < length names); are = refl }
-
 -- one file more
 pub tell_all_push : (ts : List Taken) (names more : List (List ℕ)) (needed : List (List ℕ)) (t : Taken) (told : List ℕ) → KeepNumbers names more → Tell more (needed_by t) told → TellAll ts names needed → TellAll (ts ++ t ∷ []) more (needed ++ told ∷ [])
 tell_all_push ts names more needed t told on one is = record {
@@ -188,9 +182,6 @@ tell_all_push ts names more needed t told on one is = record {
             ]
       ];
 }
-
-pub tell_all_none : (names : List (List ℕ)) → TellAll [] names []
-tell_all_none names = record { rows = refl; each = λ row t v at there. absurd (none-some t at) }
 
 -- ---- what the functions give
 

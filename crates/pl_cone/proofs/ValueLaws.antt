@@ -24,14 +24,6 @@ pub row_past : (f : Row → Result Meaning LinkFault) (member : ℕ) (rs : List 
 row_past f member rs i d g whole lt h so_far =
     step_past f (map (row member) rs) i (row member d) g (λ gs. Ok tt) whole (omega (arith, lt, length-map rs (row member))) (ap f (get_or-map (row member) rs i d (row member d) lt) ∙ h) (λ ys. refl) so_far
 
--- one of which a flag tells it; there is one at least
-pub row_told : (f : Row → Result Meaning LinkFault) (member : ℕ) (rs : List Reloc) (i : ℕ) (whole : Result (Unit {0}) LinkFault) → i < length rs → ((d : Reloc) → (g : Meaning) × (f (row member (get_or rs i d)) ≡ Ok g))
-    → each_has f (drop i (map (row member) rs)) ≡ whole → each_has f (drop (i + 1) (map (row member) rs)) ≡ whole
-row_told f member [] i whole lt told so_far = absurd (omega (arith, lt))
-row_told f member (r ∷ rs) i whole lt told so_far =
-    let v = told r in
-    row_past f member (r ∷ rs) i r v.0 whole lt v.1 so_far
-
 -- one that was looked up
 pub link_ok : (r : Result Meaning LinkFault) → done r ≡ Ok tt → (g : Meaning) × (r ≡ Ok g)
 link_ok (Ok g) e = (g, refl)

@@ -152,9 +152,6 @@ module _ (n : Needs) (before after : walking.NumberWalk) (number : ℕ) (is : Is
     seen = λ k below. elim (cases_eq number k) [ inl same ↦ seen_here k same (is.seen k below) | inr other ↦ seen_elsewhere k other (is.seen k below) ];
   }
 
-  pub more_by_one : IsMore before after
-  more_by_one = record { walk = walk; front = ap (take (length before.numbers.items)) numbers ∙ take_at before.numbers.items (number ∷ []) (length before.numbers.items) refl }
-
 check_zero : (n : Needs) (w : walking.NumberWalk) (o : Object) (number : ℕ) → because of_walk (scope.checked (state n 0 w) (name_of n number) o) ≡ Ok tt
 unfolding scope.checked
 check_zero n w o number = refl
@@ -221,9 +218,6 @@ checked_first n w o index first = by (slice_get w.numbers.items index)
     by : (x : Option ℕ) → checked_at n index w o x ≡ Ok tt
     by None = refl
     by (Some number) = subst (λ (i : ℕ). because of_walk (scope.checked (state n i w) (name_of n number) o) ≡ Ok tt) (sym first) (check_zero n w o number)
-
-pub more_same : (w : walking.NumberWalk) → IsMore w w
-more_same w = record { walk = refl; front = take_all (length w.numbers.items) w.numbers.items (omega arith) }
 
 pub more_than : (a b c : walking.NumberWalk) → IsMore a b → IsMore b c → IsMore a c
 more_than a b c first then = record { walk = then.walk ∙ first.walk; front = front_kept a.numbers.items b.numbers.items c.numbers.items first.front then.front }
@@ -365,9 +359,6 @@ module _ (n : Needs) (index : ℕ) (before after : walking.NumberWalk) (number :
 pub enter_refused : (n : Needs) (index : ℕ) (w : walking.NumberWalk) (number : ℕ) (o : Object) (needs : List ℕ) (e : Skip) → object_by_number n number ≡ Ok o → o.needed ≡ map (name_of n) needs
     → because of_walk (scope.checked (state n index w) (name_of n number) o) ≡ Err e → entered_at n index w (Some number) ≡ Err e
 enter_refused n index w number o needs e object needed checks = rw object (entered_is n index w number o needs needed ∙ rw checks refl)
-
-pub enter_lacks : (n : Needs) (index : ℕ) (w : walking.NumberWalk) (number : ℕ) (e : Skip) → object_by_number n number ≡ Err e → entered_at n index w (Some number) ≡ Err e
-enter_lacks n index w number e object = rw object refl
 
 -- the names that the object of a number needs have the numbers that are told
 pub needed_is : (n : Needs) (are : AreNeeds n) (number : ℕ) (o : Object) → object_by_number n number ≡ Ok o → Tell (all_names n) o.needed (needed_at n number)

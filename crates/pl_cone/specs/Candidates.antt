@@ -62,6 +62,20 @@ name_of_symbol (Some s) = Some s.name
 unfoldable pub symbol_name : Walked → ℕ → ℕ → Option (List ℕ)
 symbol_name walked member symbol = if symbol == 0 then None else name_of_symbol (slice_get (symbols_in (slice_get walked member)) symbol)
 
+-- the index of the member of a link refusal
+abbrev pub fault_member : LinkFault → ℕ
+fault_member (link.Undefined member symbol) = member
+fault_member (link.UndefinedTls member symbol) = member
+fault_member (link.TlsMismatch member symbol) = member
+fault_member (link.CopyOutside member symbol) = member
+
+-- the index of its symbol, 0 for none
+abbrev pub fault_symbol : LinkFault → ℕ
+fault_symbol (link.Undefined member symbol) = symbol
+fault_symbol (link.UndefinedTls member symbol) = symbol
+fault_symbol (link.TlsMismatch member symbol) = symbol
+fault_symbol (link.CopyOutside member symbol) = symbol
+
 abbrev pub of_link : Walked → LinkFault → Skip
 of_link walked (link.Undefined member symbol) = skips.Undefined (name_at walked member) (symbol_name walked member symbol)
 of_link walked (link.UndefinedTls member symbol) = skips.UndefinedTls (name_at walked member) (symbol_name walked member symbol)

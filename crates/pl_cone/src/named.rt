@@ -54,26 +54,65 @@ fn symbol_name(
     }
 }
 
+/// The index of the member of a link refusal.
+fn fault_member(fault: LinkFault) -> u32
+    ensures { result ≡ spec.fault_member fault }
+{
+    match fault {
+        LinkFault::Undefined { member, .. } => member,
+        LinkFault::UndefinedTls { member, .. } => member,
+        LinkFault::TlsMismatch { member, .. } => member,
+        LinkFault::CopyOutside { member, .. } => member,
+    }
+}
+
+/// The index of the symbol of a link refusal, 0 for none.
+fn fault_symbol(fault: LinkFault) -> u32
+    ensures { result ≡ spec.fault_symbol fault }
+{
+    match fault {
+        LinkFault::Undefined { symbol, .. } => symbol,
+        LinkFault::UndefinedTls { symbol, .. } => symbol,
+        LinkFault::TlsMismatch { symbol, .. } => symbol,
+        LinkFault::CopyOutside { symbol, .. } => symbol,
+    }
+}
+
+/// The names of a member and of one of its symbols.
+#[derive(Drop)]
+struct Names {
+    object: Text,
+    symbol: Option<Rows<u8>>,
+}
+
+/// Copies of the names of the member of an index and of a symbol of it.
+fn names_at(
+    alloc: Global,
+    members: &[Member<'_>],
+    member: u32,
+    symbol: u32,
+) -> Result<Names, AllocError>
+    ensures object { IfOk result (λ names. names.object
+        ≡ spec.name_at (walked members.now) member) }
+    ensures symbol { IfOk result (λ names. names.symbol
+        ≡ spec.symbol_name (walked members.now) member symbol) }
+{
+    Ok(Names {
+        object: name_at(alloc, members, member)?,
+        symbol: symbol_name(alloc, members, member, symbol)?,
+    })
+}
+
 /// A link refusal with names in place of indexes.
 pub fn of_link(alloc: Global, members: &[Member<'_>], fault: LinkFault) -> Result<Skip, AllocError>
     ensures { IfOk result (λ skip. skip ≡ spec.of_link (walked members.now) fault) }
 {
+    let Names { object, symbol } =
+        names_at(alloc, members, fault_member(fault), fault_symbol(fault))?;
     Ok(match fault {
-        LinkFault::Undefined { member, symbol } => Skip::Undefined {
-            object: name_at(alloc, members, member)?,
-            symbol: symbol_name(alloc, members, member, symbol)?,
-        },
-        LinkFault::UndefinedTls { member, symbol } => Skip::UndefinedTls {
-            object: name_at(alloc, members, member)?,
-            symbol: symbol_name(alloc, members, member, symbol)?,
-        },
-        LinkFault::TlsMismatch { member, symbol } => Skip::TlsMismatch {
-            object: name_at(alloc, members, member)?,
-            symbol: symbol_name(alloc, members, member, symbol)?,
-        },
-        LinkFault::CopyOutside { member, symbol } => Skip::CopyOutside {
-            object: name_at(alloc, members, member)?,
-            symbol: symbol_name(alloc, members, member, symbol)?,
-        },
+        LinkFault::Undefined { .. } => Skip::Undefined { object, symbol },
+        LinkFault::UndefinedTls { .. } => Skip::UndefinedTls { object, symbol },
+        LinkFault::TlsMismatch { .. } => Skip::TlsMismatch { object, symbol },
+        LinkFault::CopyOutside { .. } => Skip::CopyOutside { object, symbol },
     })
 }

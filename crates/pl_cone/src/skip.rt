@@ -15,15 +15,12 @@ use thiserror::Error;
 #[derive(Drop, Error)]
 pub enum Skip {
     /// A needed file is not there.
-    #[error("a file is not there")]
     NotThere(Text),
 
     /// A file bears a mark, and is no form.
-    #[error("a mark, and no form")]
     BadMark(Text),
 
     /// An acceptance clause refuses a file.
-    #[error("a file is refused")]
     Refused {
         /// The file's name.
         name: Text,
@@ -36,19 +33,15 @@ pub enum Skip {
     },
 
     /// The name's file is a static program.
-    #[error("a static program")]
     Static(Text),
 
     /// An object after the first is no library, and this is its name; or an object after the first needs the first, which is a program of this name.
-    #[error("a program is needed by another object")]
     NeededIsProgram(Text),
 
     /// The walk has too many names, and this is the first that is too many.
-    #[error("the walk has too many members")]
     TooMany(Text),
 
     /// A member of the walk has no form.
-    #[error("an object has no form")]
     Form {
         /// The member's name.
         name: Text,
@@ -58,11 +51,9 @@ pub enum Skip {
     },
 
     /// An offset of thread-local storage is too great.
-    #[error("thread-local storage is too large")]
     TlsTooLarge,
 
     /// A reference that is not weak has no definer.
-    #[error("a symbol is undefined")]
     Undefined {
         /// The name of the object's file.
         object: Text,
@@ -72,7 +63,6 @@ pub enum Skip {
     },
 
     /// A reference to thread-local data has no definer.
-    #[error("a thread-local symbol is undefined")]
     UndefinedTls {
         /// The name of the object's file.
         object: Text,
@@ -82,7 +72,6 @@ pub enum Skip {
     },
 
     /// A relocation for thread-local storage refers to what is none, or another relocation to what is.
-    #[error("a symbol is thread-local, or should be")]
     TlsMismatch {
         /// The name of the object's file.
         object: Text,
@@ -92,7 +81,6 @@ pub enum Skip {
     },
 
     /// The bytes that a COPY asks for do not lie in the memory of one PT_LOAD.
-    #[error("a copy's source is not in memory")]
     CopyOutside {
         /// The name of the object's file.
         object: Text,
@@ -102,8 +90,28 @@ pub enum Skip {
     },
 
     /// There was no memory for the answer.
-    #[error("out of memory")]
     NoMemory,
+}
+
+impl fmt::Display for Skip {
+    fn fmt<W: fmt::Write>(&self, f: &mut fmt::Formatter<W>) -> fmt::Result {
+        let cause = match self {
+            Skip::NotThere(_) => "a file is not there",
+            Skip::BadMark(_) => "a mark, and no form",
+            Skip::Refused { .. } => "a file is refused",
+            Skip::Static(_) => "a static program",
+            Skip::NeededIsProgram(_) => "a program is needed by another object",
+            Skip::TooMany(_) => "the walk has too many members",
+            Skip::Form { .. } => "an object has no form",
+            Skip::TlsTooLarge => "thread-local storage is too large",
+            Skip::Undefined { .. } => "a symbol is undefined",
+            Skip::UndefinedTls { .. } => "a thread-local symbol is undefined",
+            Skip::TlsMismatch { .. } => "a symbol is thread-local, or should be",
+            Skip::CopyOutside { .. } => "a copy's source is not in memory",
+            Skip::NoMemory => "out of memory",
+        };
+        f.write_str(cause)
+    }
 }
 
 impl fmt::Debug for Skip {

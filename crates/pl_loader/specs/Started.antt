@@ -95,6 +95,20 @@ name_of_symbol (Some s) = Some s.name
 unfoldable pub symbol_name : List ObjectFile → ℕ → ℕ → Option (List ℕ)
 symbol_name files member symbol = if symbol == 0 then None else name_of_symbol (slice_get (symbols_in (slice_get files member)) symbol)
 
+-- the index of the object of a link refusal
+abbrev pub member_of : LinkFault → ℕ
+member_of (link.Undefined member symbol) = member
+member_of (link.UndefinedTls member symbol) = member
+member_of (link.TlsMismatch member symbol) = member
+member_of (link.CopyOutside member symbol) = member
+
+-- the index of its symbol, 0 for none
+abbrev pub symbol_of : LinkFault → ℕ
+symbol_of (link.Undefined member symbol) = symbol
+symbol_of (link.UndefinedTls member symbol) = symbol
+symbol_of (link.TlsMismatch member symbol) = symbol
+symbol_of (link.CopyOutside member symbol) = symbol
+
 abbrev pub of_link : List ObjectFile → LinkFault → LoadFault
 of_link files (link.Undefined member symbol) = Undefined (name_of files member) (symbol_name files member symbol)
 of_link files (link.UndefinedTls member symbol) = UndefinedTls (name_of files member) (symbol_name files member symbol)

@@ -14,15 +14,12 @@ use thiserror::Error;
 #[derive(Drop, Error)]
 pub enum LoadFault {
     /// There is no file of this name.
-    #[error("a file is not there")]
     NotThere(Text),
 
     /// A file has a prelink tag or an undo section, and is no prelinked file.
-    #[error("a mark, and no prelinked file")]
     BadMark(Text),
 
     /// An acceptance clause refuses a file.
-    #[error("a file is refused")]
     Refused {
         /// The file's name.
         name: Text,
@@ -35,27 +32,21 @@ pub enum LoadFault {
     },
 
     /// The file of the name that is loaded is a library.
-    #[error("a library cannot be started")]
     NotProgram(Text),
 
     /// An object after the first is no library, and this is its name; or an object after the first needs the first, which is a program of this name.
-    #[error("a program is needed by another object")]
     NeededIsProgram(Text),
 
     /// The walk has too many names, and this is the first that is too many.
-    #[error("the walk has too many members")]
     TooMany(Text),
 
     /// An offset of thread-local storage is too great.
-    #[error("thread-local storage is too large")]
     TlsTooLarge,
 
     /// No hole that is left holds the library of this name.
-    #[error("no place")]
     NoPlace(Text),
 
     /// A reference that is not weak has no definer.
-    #[error("a symbol is undefined")]
     Undefined {
         /// The name of the object's file.
         object: Text,
@@ -65,7 +56,6 @@ pub enum LoadFault {
     },
 
     /// A reference to thread-local data has no definer.
-    #[error("a thread-local symbol is undefined")]
     UndefinedTls {
         /// The name of the object's file.
         object: Text,
@@ -75,7 +65,6 @@ pub enum LoadFault {
     },
 
     /// A relocation for thread-local storage refers to what is none, or another relocation to what is.
-    #[error("a symbol is thread-local, or should be")]
     TlsMismatch {
         /// The name of the object's file.
         object: Text,
@@ -85,7 +74,6 @@ pub enum LoadFault {
     },
 
     /// The bytes that a COPY asks for do not lie in the memory of one PT_LOAD.
-    #[error("a copy's source is not in memory")]
     CopyOutside {
         /// The name of the object's file.
         object: Text,
@@ -95,8 +83,28 @@ pub enum LoadFault {
     },
 
     /// There was no memory for the answer.
-    #[error("out of memory")]
     NoMemory,
+}
+
+impl fmt::Display for LoadFault {
+    fn fmt<W: fmt::Write>(&self, f: &mut fmt::Formatter<W>) -> fmt::Result {
+        let cause = match self {
+            LoadFault::NotThere(_) => "a file is not there",
+            LoadFault::BadMark(_) => "a mark, and no prelinked file",
+            LoadFault::Refused { .. } => "a file is refused",
+            LoadFault::NotProgram(_) => "a library cannot be started",
+            LoadFault::NeededIsProgram(_) => "a program is needed by another object",
+            LoadFault::TooMany(_) => "the walk has too many members",
+            LoadFault::TlsTooLarge => "thread-local storage is too large",
+            LoadFault::NoPlace(_) => "no place",
+            LoadFault::Undefined { .. } => "a symbol is undefined",
+            LoadFault::UndefinedTls { .. } => "a thread-local symbol is undefined",
+            LoadFault::TlsMismatch { .. } => "a symbol is thread-local, or should be",
+            LoadFault::CopyOutside { .. } => "a copy's source is not in memory",
+            LoadFault::NoMemory => "out of memory",
+        };
+        f.write_str(cause)
+    }
 }
 
 impl fmt::Debug for LoadFault {

@@ -80,27 +80,65 @@ fn symbol_name(
     }
 }
 
+/// The index of the object of a link refusal.
+fn member_of(fault: LinkFault) -> u32
+    ensures { result ≡ spec.member_of fault }
+{
+    match fault {
+        LinkFault::Undefined { member, .. } => member,
+        LinkFault::UndefinedTls { member, .. } => member,
+        LinkFault::TlsMismatch { member, .. } => member,
+        LinkFault::CopyOutside { member, .. } => member,
+    }
+}
+
+/// The index of the symbol of a link refusal, 0 for none.
+fn symbol_of(fault: LinkFault) -> u32
+    ensures { result ≡ spec.symbol_of fault }
+{
+    match fault {
+        LinkFault::Undefined { symbol, .. } => symbol,
+        LinkFault::UndefinedTls { symbol, .. } => symbol,
+        LinkFault::TlsMismatch { symbol, .. } => symbol,
+        LinkFault::CopyOutside { symbol, .. } => symbol,
+    }
+}
+
+/// The names of an object and of one of its symbols.
+#[derive(Drop)]
+struct Names {
+    object: Text,
+    symbol: Option<Rows<u8>>,
+}
+
+/// Copies of the names of the object of an index and of a symbol of it.
+fn names_at(
+    alloc: Global,
+    files: &[ObjectFile],
+    member: u32,
+    symbol: u32,
+) -> Result<Names, AllocError>
+    ensures object { IfOk result (λ names. names.object
+        ≡ spec.name_of files.now member) }
+    ensures symbol { IfOk result (λ names. names.symbol
+        ≡ spec.symbol_name files.now member symbol) }
+{
+    Ok(Names {
+        object: name_of(alloc, files, member)?,
+        symbol: symbol_name(alloc, files, member, symbol)?,
+    })
+}
+
 /// A link refusal with names in place of indexes.
 fn of_link(alloc: Global, files: &[ObjectFile], fault: LinkFault) -> Result<LoadFault, AllocError>
     ensures { IfOk result (λ load. load ≡ spec.of_link files.now fault) }
 {
+    let Names { object, symbol } = names_at(alloc, files, member_of(fault), symbol_of(fault))?;
     Ok(match fault {
-        LinkFault::Undefined { member, symbol } => LoadFault::Undefined {
-            object: name_of(alloc, files, member)?,
-            symbol: symbol_name(alloc, files, member, symbol)?,
-        },
-        LinkFault::UndefinedTls { member, symbol } => LoadFault::UndefinedTls {
-            object: name_of(alloc, files, member)?,
-            symbol: symbol_name(alloc, files, member, symbol)?,
-        },
-        LinkFault::TlsMismatch { member, symbol } => LoadFault::TlsMismatch {
-            object: name_of(alloc, files, member)?,
-            symbol: symbol_name(alloc, files, member, symbol)?,
-        },
-        LinkFault::CopyOutside { member, symbol } => LoadFault::CopyOutside {
-            object: name_of(alloc, files, member)?,
-            symbol: symbol_name(alloc, files, member, symbol)?,
-        },
+        LinkFault::Undefined { .. } => LoadFault::Undefined { object, symbol },
+        LinkFault::UndefinedTls { .. } => LoadFault::UndefinedTls { object, symbol },
+        LinkFault::TlsMismatch { .. } => LoadFault::TlsMismatch { object, symbol },
+        LinkFault::CopyOutside { .. } => LoadFault::CopyOutside { object, symbol },
     })
 }
 

@@ -1,4 +1,4 @@
-ghost use Rattle.std.specs.Prelude.{◌≡◌, ◌<◌, ◌≤◌, ◌^◌, ◌∷◌, length, false, IfOk};
+ghost use Rattle.std.specs.Prelude.{◌≡◌, ◌<◌, ◌≤◌, ◌^◌, ◌∷◌, length, map, false, IfOk};
 ghost use Rattle.std.specs.List.{All};
 ghost use Rattle.pl_base.specs.Answers.{Answers, NeverMemory};
 ghost use Rattle.pl_base.specs.Windows.{end_of};
@@ -29,7 +29,9 @@ use crate::{Object, Refusal, Reloc, Window};
 use pl_base::Rows;
 use pl_dyn::{DynFault, Dynamic, Tag, read_dynamic};
 use pl_elf::constants::{ET_EXEC, RELR_SIZE};
-use pl_elf::{Header, Kind, Segment, is_static_file, read_header, read_sections, read_segments};
+use pl_elf::{
+    Header, Kind, Range, Segment, is_static_file, read_header, read_sections, read_segments,
+};
 use pl_relr::{RelrFault, unpack};
 use pl_sym::Symbol;
 use std::alloc::{AllocError, Global};
@@ -204,7 +206,43 @@ fn check(
     )
 }
 
+/// An object of what was read of a file, and where its link tables stand.
 #[tactic(auto, unfolding(crate::specs::Reads::object))]
+fn object_of(
+    headers: Headers,
+    dynamic: &Dynamic,
+    linking: Linking,
+    layout: Layout,
+    ranges: Rows<Range>,
+) -> Object
+    requires loads { AreLoads (loads headers.segments) }
+    requires ranges { ranges ≡ map tables.window_range layout.windows }
+    ensures { result ≡ spec.object headers dynamic.now linking layout }
+{
+    let tls = tls(headers.segments.as_slice());
+    let span = span(headers.segments.as_slice());
+    let align = align(headers.segments.as_slice());
+    Object {
+        kind: kind_of(&headers.header),
+        entry: headers.header.entry,
+        header: headers.header,
+        sections: headers.sections,
+        segments: headers.segments,
+        needed: linking.needed,
+        symbols: linking.symbols,
+        versions: linking.versions,
+        hashes: layout.hashes,
+        relocations: layout.relocations,
+        packed: layout.packed,
+        tables: ranges,
+        tls,
+        symbolic: is_symbolic(dynamic.tags.as_slice()),
+        spare: dynamic.spare,
+        span,
+        align,
+    }
+}
+
 fn object(
     alloc: Global,
     headers: Headers,
@@ -216,83 +254,51 @@ fn object(
     requires windows { All (λ w. end_of w < 2 ^ 64) layout.windows }
     ensures { IfOk result (λ o. o ≡ spec.object headers dynamic.now linking layout) }
 {
-    let Headers {
-        header,
-        segments,
-        sections,
-    } = headers;
-    let Linking {
-        needed,
-        symbols,
-        versions,
-    } = linking;
-    let Layout {
-        hashes,
-        relocations,
-        packed,
-        windows,
-    } = layout;
-    let tables = ranges_of(alloc, windows.as_slice())?;
-    let tls = tls(segments.as_slice());
-    let span = span(segments.as_slice());
-    let align = align(segments.as_slice());
-    Ok(Object {
-        kind: kind_of(&header),
-        header,
-        sections,
-        entry: header.entry,
-        segments,
-        needed,
-        symbols,
-        versions,
-        hashes,
-        relocations,
-        packed,
-        tables,
-        tls,
-        symbolic: is_symbolic(dynamic.tags.as_slice()),
-        spare: dynamic.spare,
-        span,
-        align,
-    })
+    let ranges = ranges_of(alloc, layout.windows.as_slice())?;
+    Ok(object_of(headers, dynamic, linking, layout, ranges))
 }
 
+/// A static program by what was read of its headers, and where its link tables stand.
 #[tactic(auto, unfolding(crate::specs::Reads::static_object))]
-fn static_object(alloc: Global, headers: Headers) -> Result<Object, AllocError>
+fn static_object_of(alloc: Global, headers: Headers, ranges: Rows<Range>) -> Object
     requires loads { AreLoads (loads headers.segments) }
-    requires windows { All (λ w. end_of w < 2 ^ 64)
+    requires ranges { ranges ≡ map tables.window_range
         (tables.static_windows headers.header headers.sections) }
-    ensures { IfOk result (λ o. o ≡ spec.static_object headers) }
+    ensures { result ≡ spec.static_object headers }
 {
-    let Headers {
-        header,
-        segments,
-        sections,
-    } = headers;
-    let windows = static_windows(alloc, &header, sections.as_slice())?;
-    let tables = ranges_of(alloc, &windows)?;
-    let tls = tls(segments.as_slice());
-    let span = span(segments.as_slice());
-    let align = align(segments.as_slice());
-    Ok(Object {
+    let tls = tls(headers.segments.as_slice());
+    let span = span(headers.segments.as_slice());
+    let align = align(headers.segments.as_slice());
+    Object {
         kind: Kind::Static,
-        header,
-        sections,
-        entry: header.entry,
-        segments,
+        entry: headers.header.entry,
+        header: headers.header,
+        sections: headers.sections,
+        segments: headers.segments,
         needed: Rows::new(alloc),
         symbols: Rows::new(alloc),
         versions: None,
         hashes: Rows::new(alloc),
         relocations: Rows::new(alloc),
         packed: 0,
-        tables,
+        tables: ranges,
         tls,
         symbolic: false,
         spare: 0,
         span,
         align,
-    })
+    }
+}
+
+fn static_object(alloc: Global, headers: Headers) -> Result<Object, AllocError>
+    requires loads { AreLoads (loads headers.segments) }
+    requires windows { All (λ w. end_of w < 2 ^ 64)
+        (tables.static_windows headers.header headers.sections) }
+    ensures { IfOk result (λ o. o ≡ spec.static_object headers) }
+{
+    let windows = static_windows(alloc, &headers.header, headers.sections.as_slice())?;
+    let ranges = ranges_of(alloc, &windows)?;
+    Ok(static_object_of(alloc, headers, ranges))
 }
 
 #[tactic(auto, unfolding(crate::specs::Reads::checked))]

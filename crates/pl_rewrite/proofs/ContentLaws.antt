@@ -38,9 +38,6 @@ use Rattle.pl_rewrite.proofs.SourceLaws.{value_source}
 
 -- ---- the meanings of the first member
 
-abbrev Value : List Object → List ℕ → List Module → Row → Result Meaning LinkFault
-Value os places modules x = meaning os places modules x
-
 zip_at : {A B : Type 0} (R : A → B → Type 0) (xs : List A) (ys : List B) (i : ℕ) (d : A) (e : B) → AllZip R xs ys → i < length xs → R (get_or xs i d) (get_or ys i e)
 zip_at R [] ys i d e zip lt = absurd (omega (arith, lt))
 zip_at R (x ∷ xs) [] i d e zip lt = absurd zip

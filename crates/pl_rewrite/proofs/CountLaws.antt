@@ -26,16 +26,6 @@ made_rows : (r : Firm) (rs : List Firm) (rows : List ConflictRow) → (program_m
 unfolding program_made
 made_rows r rs rows = refl
 
-pub rows_borne : (r : Firm) (rs : List Firm) (file : List ℕ) (modules : List Module) (rows : List ConflictRow) (m : Marked) → AreSources (r ∷ rs) → is_library r.object.kind ≡ false → are_set (r ∷ rs) ≡ true → program_file (r ∷ rs) ≡ Some file → length file ≤ STORED
-    → offsets (map (λ o. o.tls) (objects_of (r ∷ rs))) ≡ Ok modules → conflicts (objects_of (r ∷ rs)) (parts_of (r ∷ rs)) (slots_of (r ∷ rs)) modules ≡ Ok rows → marked_in file ≡ Some m → m.conflicts ≡ rows
-rows_borne r rs file modules rows m are other set is small numbered made read =
-    let p = program_of r rs file is in
-    let form : IsFormOf file (program_made r rs p.rows) = program_is_form r rs file p (own_all (r ∷ rs) are) other (set_is r rs set) small in
-    let borne : program_made r rs p.rows ≡ m = same_Some (program_made r rs p.rows) m (sym (forms_are_read file (program_made r rs p.rows) (forms_are_bytes file (program_made r rs p.rows) form) form) ∙ read) in
-    let same : p.modules ≡ modules = ok_same p.modules modules (sym p.numbered ∙ numbered) in
-    let given : conflicts (objects_of (r ∷ rs)) (parts_of (r ∷ rs)) (slots_of (r ∷ rs)) modules ≡ Ok p.rows = subst (λ (ms : List Module). conflicts (objects_of (r ∷ rs)) (parts_of (r ∷ rs)) (slots_of (r ∷ rs)) ms ≡ Ok p.rows) same p.conflicts in
-    ap (λ (x : Marked). x.conflicts) (sym borne) ∙ made_rows r rs p.rows ∙ ok_same p.rows rows (sym given ∙ made)
-
 -- so many as the conflicts of its scope
 pub rows_counted : (r : Firm) (rs : List Firm) (file : List ℕ) (modules : List Module) → AreSources (r ∷ rs) → is_library r.object.kind ≡ false → are_set (r ∷ rs) ≡ true → Some file ≡ stored (program_file (r ∷ rs)) → offsets (map (λ o. o.tls) (objects_of (r ∷ rs))) ≡ Ok modules
     → conflicts_in file ≡ rows_count (conflicts_with (r ∷ rs) modules)

@@ -24,9 +24,6 @@ use Rattle.pl_rewrite.proofs.ProgramLaws.{made_with, ok_of, without_rows}
 use Rattle.pl_rewrite.proofs.VersionLaws.{fills_versions, objects_versions, slots_versions, sources_versions}
 
 module _ (w : Work) (row : ℕ) (l : WalkLinking) (work : IsWork w) (program : IsProgramRow w row) (linking : IsLinkingOfRow w row l) (set : are_set (firms_of w.numbered.now row) ≡ true) where
-  abbrev n : Numbered
-  n = w.numbered.now
-
   abbrev rs : List Firm
   rs = firms_of w.numbered.now row
 

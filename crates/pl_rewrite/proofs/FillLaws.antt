@@ -26,27 +26,6 @@ use Rattle.pl_value.specs.declared.meaning.Meaning.{Meaning}
 use Rattle.pl_value.proofs.PlaceLaws.{IsHeld}
 use Rattle.pl_rewrite.specs.Fills.{fill_at, fills}
 
--- ---- words and copies as patches
-
-pub written_is : (base : Memory) (gs : List Meaning) → filled base (written base gs) ≡ relocated base gs
-unfolding relocated
-written_is base gs = filled-append base (words gs) (copies (worded base gs) gs)
-
--- ---- a loop over relocations
-
-fills_append : (m : Memory) (rs ss : List Reloc) → fills m (rs ++ ss) ≡ fills m rs ++ fills m ss
-unfolding fills
-fills_append m [] ss = refl
-fills_append m (r ∷ rs) ss = elim (cases_Bool (has_place r)) [
-  | inl some ↦ rw some (ap (λ (fs : List Fill). fill_at m r ∷ fs) (fills_append m rs ss))
-  | inr none ↦ rw none (fills_append m rs ss)
-]
-
-pub fills_more : (m : Memory) (rs : List Reloc) (i : ℕ) (d : Reloc) (front new : List Fill) → i < length rs → new ≡ front ++ fills m (get_or rs i d ∷ []) → front ≡ fills m (take i rs) → new ≡ fills m (take (i + 1) rs)
-fills_more m rs i d front new lt more so_far =
-    let one : List Fill = fills m (get_or rs i d ∷ []) in
-    more ∙ ap (λ (fs : List Fill). fs ++ one) so_far ∙ sym (ap (fills m) (take_more rs i d lt) ∙ fills_append m (take i rs) (get_or rs i d ∷ []))
-
 -- ---- they are fills of the places
 
 windows_are : (m : Memory) (rs : List Reloc) → map fill_window (map (fill_at m) rs) ≡ places rs

@@ -43,11 +43,6 @@ first_made f m r g ps rest (x ∷ xs) some is later zip =
     ap (λ (n : ℕ). record { address = n; bytes = x.bytes } ∷ xs) zip.0.0 ∙ ap (λ (bs : List ℕ). record { address = r.address; bytes = bs } ∷ xs) (is x.bytes some zip.0.1)
     ∙ ap (λ (ys : List Fill). fill_at m r ∷ ys) (later xs zip.1)
 
-no_places : (rs : List Reloc) → given_places rs [] ≡ []
-unfolding given_places
-no_places [] = refl
-no_places (r ∷ rs) = refl
-
 nothing_of : (gs : List Meaning) → given_places [] gs ≡ []
 unfolding given_places
 nothing_of gs = refl

@@ -47,10 +47,6 @@ same_count {C = C} f g h (x ∷ xs) same =
 
 -- ---- members and rows
 
-named_by : Numbered → ℕ → Option Taken → Option Object → Option Firm
-named_by n row None o = None
-named_by n row (Some t) o = option_map (firm_by n row t) o
-
 abbrev pub named_of : Firm → List ℕ × Object
 named_of r = (r.member.name, r.object)
 

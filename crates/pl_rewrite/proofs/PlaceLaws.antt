@@ -41,33 +41,6 @@ loaded_some n row t o original place loaded at is bytes slot made = λ r e.
     let one : firm_by n row t o ≡ r = same_Some (firm_by n row t o) r (sym (firm_there n row t o at is) ∙ e) in
     ap (λ (l : LoadedObject). Some l) (made ∙ ap (λ (k : ℕ). loaded_at k original o) slot ∙ ap (λ (bs : List ℕ). loaded_at (number_at n.places.now row) bs o) bytes ∙ ap loaded_for one)
 
-pub bytes_none : (n : Numbered) (row : ℕ) (patches : List Fill) (from size : ℕ) (bytes : List ℕ) → IsLoadedAt n row None → AreBytesOf n row patches from size bytes
-bytes_none n row patches from size bytes none = λ r e. absurd (none-some (loaded_for r) (none r e))
-
-pub bytes_some : (n : Numbered) (row : ℕ) (l : LoadedObject) (patches : List Fill) (from size : ℕ) (bytes : List ℕ) → IsLoadedAt n row (Some l) → bytes ≡ read (filled (layered (all_pieces (l ∷ []))) patches) from size → AreBytesOf n row patches from size bytes
-bytes_some n row l patches from size bytes is made = λ r e.
-    let whole : all_pieces (l ∷ []) ≡ l.pieces = append-nil l.pieces in
-    let same : l ≡ loaded_for r = same_Some l (loaded_for r) (is r e) in
-    made ∙ ap (λ ps. read (filled (layered ps) patches) from size) (whole ∙ ap (λ (x : LoadedObject). x.pieces) same)
-
--- ---- bytes over others
-
-pub put_all : (first before made : List ℕ) (count : ℕ) → length first < length before → count ≡ length first → made ≡ take count first ++ drop count before → PutsFirst first before made
-put_all first before made count lt is so =
-    so ∙ ap (λ (n : ℕ). take n first ++ drop n before) is
-    ∙ ap (λ (bs : List ℕ). bs ++ drop (length first) before) (take_all (length first) first (omega arith) ∙ sym (take_all (length before) first (omega (arith, lt))))
-
-drop_past : (n : ℕ) (xs : List ℕ) → length xs ≤ n → drop n xs ≡ []
-drop_past zero [] le = refl
-drop_past zero (x ∷ xs) le = absurd (omega (arith, le))
-drop_past (suc n) [] le = refl
-drop_past (suc n) (x ∷ xs) le = drop_past n xs (omega (arith, le))
-
-pub put_some : (first before made : List ℕ) (count : ℕ) → length before ≤ length first → count ≡ length before → made ≡ take count first ++ drop count before → PutsFirst first before made
-put_some first before made count le is so =
-    so ∙ ap (λ (n : ℕ). take n first ++ drop n before) is
-    ∙ ap (λ (bs : List ℕ). take (length before) first ++ bs) (drop_past (length before) before (omega arith) ∙ sym (drop_past (length first) before le))
-
 -- ---- one relocation after the other
 
 zip_append : {A B : Type 0} (R : A → B → Type 0) (xs : List A) (ys : List B) (us : List A) (vs : List B) → AllZip R xs ys → AllZip R us vs → AllZip R (xs ++ us) (ys ++ vs)

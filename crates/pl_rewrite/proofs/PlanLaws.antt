@@ -25,20 +25,8 @@ use Rattle.pl_rewrite.specs.declared.report.ReportRow.{ReportRow}
 
 -- ---- what a plan says of its names
 
-pub record HasNames (files : Files) (ns : List (List ℕ)) (region : Range) (p : RunPlan) : Type 0 where
-  pub standings : p.standings ≡ standings files region ns
-  pub stale : p.stale ≡ stale files region p.slots ns
-
 abbrev plan_with : Files → List (List ℕ) → Range → List Slot → ℕ → RunPlan
 plan_with files ns region rows stamp = record { standings = standings files region ns; slots = rows; stale = stale files region rows ns; stamp = stamp }
-
-pub plan_names : (files : Files) (ns : List (List ℕ)) (a : Asked) (p : RunPlan) → planned files ns a ≡ Ok p → HasNames files ns a.region p
-unfolding planned
-plan_names files ns a p e =
-    let q = bind_ok (slots files ns a) (λ rows. stamp_for files ns a (stale files a.region rows ns) >>= λ stamp. Ok (plan_with files ns a.region rows stamp)) p e in
-    let r = bind_ok (stamp_for files ns a (stale files a.region q.0 ns)) (λ stamp. Ok (plan_with files ns a.region q.0 stamp)) p q.2 in
-    let same : plan_with files ns a.region q.0 r.0 ≡ p = ok_same (plan_with files ns a.region q.0 r.0) p r.2 in
-    subst (HasNames files ns a.region) same (record { standings = refl; stale = refl })
 
 -- and of its stamp
 pub plan_stamp : (files : Files) (ns : List (List ℕ)) (a : Asked) (p : RunPlan) → planned files ns a ≡ Ok p → stamp_for files ns a (stale files a.region p.slots ns) ≡ Ok p.stamp
@@ -91,22 +79,6 @@ made_append files region p ns n =
     ap (λ (x : List Change). make x (map (row_of files region p) (ns ++ n ∷ [])) (list_any (is_given files region p) (ns ++ n ∷ []))) (given_append (change files region p) ns n)
     ∙ (ap (λ (x : List ReportRow). make rows x (list_any (is_given files region p) (ns ++ n ∷ []))) (map_append (row_of files region p) ns n)
     ∙ ap (λ (x : Bool). make rows states x) (any_append (is_given files region p) ns n)))
-
-names_append : (ts : List Taken) (t : Taken) → names_of (ts ++ t ∷ []) ≡ names_of ts ++ t.name ∷ []
-names_append ts t = map_append (λ (u : Taken). u.name) ts t
-
-pub made_more : (files : Files) (region : Range) (p : RunPlan) (ts : List Taken) (i : ℕ) (t : Taken) (all after : MadeFiles) (made : Made) → i < length ts → t ≡ get_or ts i t → all ≡ run_made files (names_of (take i ts)) region p
-    → made ≡ record { change = change files region p t.name; state = state_after files region p t.name; given = is_given files region p t.name } → after ≡ with_made all t.name made → after ≡ run_made files (names_of (take (i + 1) ts)) region p
-made_more files region p ts i t all after made lt at so_far one more =
-    let longer : take (i + 1) ts ≡ take i ts ++ t ∷ [] = take_more ts i t lt ∙ ap (λ (u : Taken). take i ts ++ u ∷ []) (sym at) in
-    more
-    ∙ (ap (λ (x : MadeFiles). with_made x t.name made) so_far
-    ∙ (ap (with_made (run_made files (names_of (take i ts)) region p) t.name) one
-    ∙ (made_append files region p (names_of (take i ts)) t.name
-    ∙ ap (λ (ns : List (List ℕ)). run_made files ns region p) (sym (ap names_of longer ∙ names_append (take i ts) t)))))
-
-pub made_done : (files : Files) (region : Range) (p : RunPlan) (ts : List Taken) (i : ℕ) (all : MadeFiles) → length ts ≤ i → all ≡ run_made files (names_of (take i ts)) region p → all ≡ run_made files (names_of ts) region p
-made_done files region p ts i all le so_far = so_far ∙ ap (λ (us : List Taken). run_made files (names_of us) region p) (take_all i ts le)
 
 pub made_none : (files : Files) (region : Range) (p : RunPlan) (rows : List Change) (states : List ReportRow) → rows ≡ [] → states ≡ [] → ◌≡◌ {A = MadeFiles} (record { rows = rows; states = states; given = false }) (run_made files [] region p)
 unfolding changes

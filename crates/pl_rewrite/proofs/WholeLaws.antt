@@ -27,18 +27,10 @@ prelinked_none rs are set = sym (whole rs are ∙ ap (λ (b : Bool). when b (sto
 
 -- ---- the file by the kind of the first
 
-pub no_whole : (rs : List Firm) → length rs < 1 → None ≡ stored (file_of rs)
-no_whole [] none = refl
-no_whole (r ∷ rs) none = absurd (omega (arith, none))
-
 library_first : (r : Firm) (rs : List Firm) → AreSources (r ∷ rs) → IsSet r rs → is_library r.object.kind ≡ true → IsLibraryWalk (r ∷ rs)
 library_first r rs are set library =
     let numbers : All HasNumbers (r ∷ rs) = true_all has_numbers (r ∷ rs) (and_from (has_numbers r) (list_all has_numbers rs) set.first set.numbers) in
     record { first = library; numbers = numbers; names = valid_of r rs are numbers set.list }
-
-pub whole_library : (all : List Firm) (r : Firm) (rs : List Firm) → all ≡ r ∷ rs → AreSources all → are_set all ≡ true → is_library r.object.kind ≡ true → IsLibraryWalk all
-whole_library all r rs is are set library =
-    subst IsLibraryWalk (sym is) (library_first r rs (subst AreSources is are) (set_is r rs (subst (λ (xs : List Firm). are_set xs ≡ true) is set)) library)
 
 pub whole_program : (all : List Firm) (r : Firm) (rs : List Firm) → all ≡ r ∷ rs → are_set all ≡ true → is_library r.object.kind ≡ false → IsProgramSet all
 whole_program all r rs is set program =

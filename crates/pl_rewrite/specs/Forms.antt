@@ -2,12 +2,10 @@
 use Rattle.std.specs.Prelude.{◌≡◌, ℕ, ◌%◌, Bool, true, List, [], ◌∷◌, drop, length, Option, Some}
 use Rattle.std.specs.List.{All, list_all}
 use Rattle.pl_base.specs.Names.{is_valid_name}
-use Rattle.pl_conflict.specs.Own.{own_words}
-use Rattle.pl_conflict.specs.Prelinked.{Firm, are_set, has_numbers, list_of, objects_of, slots_of, version_of}
+use Rattle.pl_conflict.specs.Prelinked.{Firm, has_numbers, version_of}
 use Rattle.pl_elf.specs.Kinds.{is_library}
 use Rattle.pl_form.specs.Library.{IsFirmLibrary, IsListing, library_form}
 use Rattle.pl_lists.specs.declared.list_row.ListRow.{ListRow}
-use Rattle.pl_form.specs.Back.{when}
 
 abbrev pub has_valid_name : Firm → Bool
 has_valid_name r = is_valid_name r.member.name
@@ -24,11 +22,6 @@ pub record IsLibraryWalk (rs : List Firm) : Type 0 where
   pub numbers : All HasNumbers rs
   pub names : list_all has_valid_name (drop 1 rs) ≡ true
 
--- the rows of the members after the first
-abbrev pub list_after : List Firm → List ListRow
-list_after [] = []
-list_after (r ∷ rs) = list_of rs
-
 -- with this list, and these words at its places
 abbrev pub file_with : Firm → List ListRow → List (Option ℕ) → List ℕ
 file_with r list words = library_form r.member.original r.member.slot r.member.stamp list words (version_of r.member.version)
@@ -39,7 +32,3 @@ pub record HasFormWith (r : Firm) (rows : List ListRow) (own : List (Option ℕ)
   pub even : r.member.slot % 2 ≡ 0
   pub list : IsListing rows
   pub words : length own ≡ length r.object.relocations
-
--- the own words of the first of members that can be prelinked together
-abbrev pub words_in : List Firm → Option (List (Option ℕ))
-words_in rs = when (are_set rs) (Some (own_words (objects_of rs) (slots_of rs)))

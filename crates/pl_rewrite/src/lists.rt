@@ -49,8 +49,9 @@ pub fn digest_at(files: &[Taken], digests: &[Option<[u8; 32]>], row: usize) -> [
     requires digests { told.AreDigests files.now digests.now }
     ensures { told.IsDigestAt files.now row result }
 {
+    let taken = &files[row];
     match digests[row] {
-        None => digest_of(files[row].original()),
+        None => digest_of(taken.original()),
         Some(digest) => digest,
     }
 }

@@ -98,7 +98,8 @@ fn link_at(alloc: Global, numbered: &Numbered<'_>, row: usize) -> Result<Link, N
     let members = numbered.walk(row);
     let walk = WalkScope::of(alloc, files, members)?;
     let link = library_link(alloc, &walk, numbered.index)?;
-    let library = files[row].is_library();
+    let taken = &files[row];
+    let library = taken.is_library();
     if library {
         return Ok(link);
     }

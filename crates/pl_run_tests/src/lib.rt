@@ -1,21 +1,19 @@
-//! Tests of the commands by whole runs over folders in memory: one after the other, stopped at each moment, and with each call failing in turn.
+//! Tests of whole runs by the top call, as scripts, and of runs that are stopped at each moment or of which each call fails.
 #![tactic(auto)]
 
 #[cfg(test)]
-mod commands;
-#[cfg(test)]
-mod demo;
-#[cfg(test)]
 mod failing;
 #[cfg(test)]
-mod prelinking;
+mod recipes;
 #[cfg(test)]
 mod running;
 #[cfg(test)]
-mod steps;
+mod scripts;
+#[cfg(test)]
+mod session;
 #[cfg(test)]
 mod stopping;
 #[cfg(test)]
-mod verifying;
-#[cfg(test)]
 mod weaving;
+#[cfg(test)]
+mod words;

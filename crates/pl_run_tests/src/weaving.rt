@@ -1,178 +1,23 @@
-// Runs of `--weave`: loads that open their files while runs go on.
-use crate::running::{File, NONE, NOW, Ran, file_in, files_in, folder_of, run_over};
-use crate::steps::{Row, Step, files_after, take_rows};
+// Weaves of many scripts: loads that open their files while runs go on.
+use crate::running::{Asked, File, asked_of, file_in, files_in, folder_of, run_over, run_two};
+use crate::words::words_of;
 use pl_cli::Status;
 use pl_folder::MemoryFolder;
 use rand_core::utils::NextWord;
 use rand_pcg::Pcg32;
 use std::alloc::Global;
-use std::process::Abort;
 use std::test::Fail;
 
-// A library that differs from `liba` in one word.
-const LIBX: &str = "library\ndata 8\nword 0 aaaa\ndef f global func 0 8\n";
+/// The runs of scripts: the line of each, its moment, and its words as a command of its own. What is installed is the file `libf`.
+const RUNS: &str = "\
+install libe libf: 1000 --install libe\n\
+prelink 2000: 2000 -a\n\
+undo: 1000 -u -a\n\
+undo libe: 1000 -u libe\n\
+prelink 3000: 3000 -a";
 
-const SLOW: &str = "loader 0
-slow
-object 0000000000400000 0000000000501000 p
-object 0000003000000000 0000003000101000 liba
-entry 0000000000400000
-word 0000000000500000 0000003000100000
-word 0000003000100000 000000000000aaaa
-end
-run 0 done 1
-weave end
-";
-
-const FAST: &str = "loader 0
-fast
-object 0000000000400000 0000000000501000 p
-object 0000003000000000 0000003000101000 liba
-entry 0000000000400000
-word 0000000000500000 0000003000100000
-word 0000003000100000 0000000000001111
-end
-run 0 done 1
-weave end
-";
-
-// A position-independent program, placed as `--load` places it, and a library of a later moment.
-const PLACED: &str = "loader 0
-slow
-object 0000002000000000 0000002000101000 pi
-object 0000003000000000 0000003000101000 liba
-entry 0000002000100000
-word 0000002000100000 0000003000100000
-word 0000002000100008 0000002000100000
-word 0000003000100000 000000000000aaaa
-end
-run 0 done 1
-weave end
-";
-
-// A library is installed between the files of a load, or behind them; scripts that are none, and one without lines; a loader that has opened nothing; runs that are refused, wait, or are under way; a position-independent program.
-const WEAVES: [Row; 3] = [
-    (
-        &[("liba", "liba"), ("p", "p")],
-        &[
-            Step::Prints(&["-a"], "done 2 prelinked 0 current 0 skipped\n"),
-            Step::Makes("libx", LIBX),
-            Step::Weaves("load p\ninstall liba libx\nopen 0\nrename\nopen 0\n", SLOW),
-            Step::Weaves("load p\ninstall liba libx\nopen 0\nopen 0\nrename\n", FAST),
-            Step::Weaves(
-                "load p\nopen 0\nundo\nprelink 2000",
-                "loader 0\nwants liba\nrun 0 renames 0 of 2\nrun 1 waits\nweave end\n",
-            ),
-            Step::Weaves(
-                "undo libq\ninstall libx libx\nundo\nrename\n",
-                "run 0 refused NotThere libq\nrun 1 done 0\nrun 2 renames 1 of 2\nweave end\n",
-            ),
-            Step::NotWoven("install liba libq\n", "refused NotThere libq\n"),
-        ],
-    ),
-    (
-        &[],
-        &[
-            Step::NotWoven("open 0", "refused Script 1\n"),
-            Step::Weaves("", "weave end\n"),
-            Step::Weaves(
-                "load p\nopen 0\nopen 0\n",
-                "loader 0\nrefused NotThere p\nweave end\n",
-            ),
-        ],
-    ),
-    (
-        &[
-            ("liba", "liba"),
-            ("libx", LIBX),
-            (
-                "pi",
-                "pie\nneeds liba\nentry 0\ndata 10\nref f global func\nrel globdat 0 f 0\nrel relative 8 - 0\n",
-            ),
-        ],
-        &[
-            Step::Weaves(
-                "load pi\ninstall liba libx\nopen 0\nrename\nopen 0\n",
-                PLACED,
-            ),
-            Step::Weaves(
-                "load pi\nload liba\nopen 0\nopen 1\n",
-                "loader 0\nwants liba\nloader 1\nrefused NotProgram liba\nweave end\n",
-            ),
-        ],
-    ),
-];
-
-#[test]
-fn weaves_loads_and_runs(rt: HostRuntime) -> Result<(), Fail> {
-    take_rows(&rt, &WEAVES)
-}
-
-// ---- many scripts
-
-// A program that copies from a library, another library, and the recipe of a smaller one that is installed later.
-const COPYING: Row = (
-    &[
-        (
-            "libe",
-            "library\ndata 10\nword 0 11\nword 8 22\ndef x global object 0 10\n",
-        ),
-        ("libx", LIBX),
-        (
-            "e",
-            "program\nneeds libe\nbss 10\ndef x global object 0 10\nrel copy 0 x 0\n",
-        ),
-    ],
-    &[
-        Step::Prints(&["-a"], "done 3 prelinked 0 current 0 skipped\n"),
-        Step::Makes(
-            "libf",
-            "library\ndata 10\nword 0 33\nword 8 44\ndef x global object 0 8\n",
-        ),
-    ],
-);
-
-/// A run of a script: its line, its words as a command of its own, and the file of the start that is its input.
-#[derive(Clone, Copy)]
-struct Asked {
-    line: &'static str,
-    words: &'static [&'static str],
-    input: &'static str,
-    now: u32,
-}
-
-const RUNS: [Asked; 5] = [
-    Asked {
-        line: "install libe libf\n",
-        words: &["--install", "libe"],
-        input: "libf",
-        now: NOW,
-    },
-    Asked {
-        line: "prelink 2000\n",
-        words: &["-a"],
-        input: "libf",
-        now: 2000,
-    },
-    Asked {
-        line: "undo\n",
-        words: &["-u", "-a"],
-        input: "libf",
-        now: NOW,
-    },
-    Asked {
-        line: "undo libe\n",
-        words: &["-u", "libe"],
-        input: "libf",
-        now: NOW,
-    },
-    Asked {
-        line: "prelink 3000\n",
-        words: &["-a"],
-        input: "libf",
-        now: 3000,
-    },
-];
+/// How many runs there are to choose from.
+const KINDS: usize = 5;
 
 /// A step of a script.
 #[derive(Clone, Copy)]
@@ -182,12 +27,14 @@ enum Turn {
     Renames,
 }
 
-const TURNS: [(&str, Turn); 4] = [
-    ("open 0\n", Turn::OpensFirst),
-    ("open 1\n", Turn::OpensSecond),
-    ("rename\n", Turn::Renames),
-    ("rename\n", Turn::Renames),
-];
+/// The step of a word, and its line.
+fn turn_of(word: u32) -> (Turn, &'static str) {
+    match word % 4 {
+        0 => (Turn::OpensFirst, "open 0\n"),
+        1 => (Turn::OpensSecond, "open 1\n"),
+        _ => (Turn::Renames, "rename\n"),
+    }
+}
 
 /// How many runs and how many steps a script has.
 const FEW: usize = 3;
@@ -270,48 +117,76 @@ fn told_of(alloc: Global, seen: &[File]) -> Result<Vec<u8>, Fail> {
         1 => Ok(b"wants libe\n".to_vec(alloc)?),
         _ => {
             let mut folder = folder_of(alloc, seen, &[])?;
-            let Ran { status: _, text } = run_over(
-                alloc,
-                &mut folder,
-                &["--load", "e"],
-                b"",
-                NOW,
-                NONE,
-            )?;
-            Ok(text)
+            let ran = run_two(alloc, &mut folder, "--load", "e")?;
+            Ok(ran.text)
         }
     }
 }
 
+/// The run of a line of the table, with an input, and its line in a script.
+fn run_of(alloc: Global, row: &str, input: &[u8]) -> Result<(String, Asked), Fail> {
+    let (line, command) = row.split_once(": ").ok_or("a run")?;
+    let (moment, words) = command.split_once(' ').ok_or("a command")?;
+    let mut asked = asked_of(alloc, words_of(alloc, words)?, moment.parse::<u32>()?);
+    asked.input = input.to_vec(alloc)?;
+    Ok((format!(in alloc; "{line}\n")?, asked))
+}
+
 /// The lines of the runs of a script, and what they leave one after the other.
 fn take_runs(
-    rt: &(impl Abort + AllocGlobal),
+    alloc: Global,
     words: &mut Pcg32,
     script: &mut String,
     folder: &mut MemoryFolder,
     input: &[u8],
 ) -> Result<Vec<Vec<File>>, Fail> {
-    let alloc: Global = rt.alloc();
     let mut after = Vec::new(alloc);
     for _ in 0..FEW {
-        let asked = RUNS[words.next_word() as usize % RUNS.len()];
-        script.push_str(asked.line)?;
-        let ran = run_over(alloc, folder, asked.words, input, asked.now, NONE)?;
-        let line = asked.line;
-        assert_eq!(rt; ran.status, Status::Done, "at {line}");
+        let number = words.next_word() as usize % KINDS;
+        let row = RUNS.lines().nth(number).ok_or("a run")?;
+        let (line, asked) = run_of(alloc, row, input)?;
+        script.push_str(line.as_str())?;
+        let ran = run_over(alloc, folder, &asked)?;
+        if ran.status != Status::Done {
+            return Err("a run that is done".into());
+        }
         after.push(files_in(alloc, folder)?)?;
     }
     Ok(after)
 }
 
-/// A script that a seed gives, over the files: each load prints what it prints over a folder of the files that it saw.
-fn weave_once(rt: &(impl Abort + AllocGlobal), files: &[File], seed: u64) -> Result<(), Fail> {
-    let alloc: Global = rt.alloc();
+/// The steps of a script, and their lines.
+fn take_turns(
+    alloc: Global,
+    words: &mut Pcg32,
+    script: &mut String,
+    shown: &mut Shown,
+) -> Result<(), Fail> {
+    for _ in 0..STEPS {
+        let (turn, line) = turn_of(words.next_word());
+        script.push_str(line)?;
+        turn_once(alloc, shown, turn)?;
+    }
+    Ok(())
+}
+
+/// What a weave writes of its two loads.
+fn wanted(alloc: Global, shown: &Shown) -> Result<Vec<u8>, Fail> {
+    let mut text = b"loader 0\n".to_vec(alloc)?;
+    text.extend_from_slice(&told_of(alloc, &shown.first)?)?;
+    text.extend_from_slice(b"loader 1\n")?;
+    text.extend_from_slice(&told_of(alloc, &shown.second)?)?;
+    text.extend_from_slice(b"run 0 ")?;
+    Ok(text)
+}
+
+/// Whether each load of a script that a seed gives prints what it prints over a folder of the files that it saw.
+fn weaves_once(alloc: Global, files: &[File], seed: u64) -> Result<bool, Fail> {
     let mut words = Pcg32::new(seed, 17);
     let mut folder = folder_of(alloc, files, &[])?;
     let input = file_in(alloc, &mut folder, "libf")?;
     let mut script = String::from_str(alloc, "load e\nload e\n")?;
-    let after = take_runs(rt, &mut words, &mut script, &mut folder, &input)?;
+    let after = take_runs(alloc, &mut words, &mut script, &mut folder, &input)?;
     let mut folder = folder_of(alloc, files, &[])?;
     let mut shown = Shown {
         after,
@@ -320,37 +195,20 @@ fn weave_once(rt: &(impl Abort + AllocGlobal), files: &[File], seed: u64) -> Res
         first: Vec::new(alloc),
         second: Vec::new(alloc),
     };
-    for _ in 0..STEPS {
-        let (line, turn) = TURNS[words.next_word() as usize % TURNS.len()];
-        script.push_str(line)?;
-        turn_once(alloc, &mut shown, turn)?;
-    }
-    let ran = run_over(
-        alloc,
-        &mut folder,
-        &["--weave"],
-        script.as_bytes(),
-        NOW,
-        NONE,
-    )?;
-    let mut want = b"loader 0\n".to_vec(alloc)?;
-    want.extend_from_slice(&told_of(alloc, &shown.first)?)?;
-    want.extend_from_slice(b"loader 1\n")?;
-    want.extend_from_slice(&told_of(alloc, &shown.second)?)?;
-    want.extend_from_slice(b"run 0 ")?;
-    assert_eq!(rt; ran.status, Status::Done, "at {seed}");
-    assert!(rt; ran.text.starts_with(&want), "at {seed}");
-    Ok(())
+    take_turns(alloc, &mut words, &mut script, &mut shown)?;
+    let mut asked = asked_of(alloc, words_of(alloc, "--weave")?, 1000);
+    asked.input = script.into_bytes();
+    let ran = run_over(alloc, &mut folder, &asked)?;
+    let wanted = wanted(alloc, &shown)?;
+    Ok(ran.status == Status::Done && ran.text.starts_with(&wanted))
 }
 
-/// How many scripts there are.
-const SCRIPTS: u64 = 100;
-
-#[test]
-fn loads_of_many_scripts(rt: HostRuntime) -> Result<(), Fail> {
-    let files = files_after(&rt, COPYING.0, COPYING.1)?;
-    for seed in 0..SCRIPTS {
-        weave_once(&rt, &files, seed)?;
+/// Whether so many scripts weave as they are to.
+pub fn weaves(alloc: Global, files: &[File], count: u64) -> Result<String, Fail> {
+    for seed in 0..count {
+        if !weaves_once(alloc, files, seed)? {
+            return Ok(format!(in alloc; "script {seed} is not as it is to be\n")?);
+        }
     }
-    Ok(())
+    Ok(format!(in alloc; "{count} scripts are as they are to be\n")?)
 }
