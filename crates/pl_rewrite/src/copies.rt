@@ -1,7 +1,7 @@
 // The bytes at the places of a program: its own words, and what its copies read.
 ghost use Rattle.std.specs.Prelude.{◌≡◌, ◌<◌, IfOk, OnOk, drop, length, take};
 ghost use Rattle.pl_base.specs.Bytes.{bytes64};
-ghost use Rattle.pl_form.specs.Words.{has_place};
+ghost use Rattle.pl_form.specs.Words as form;
 ghost use Rattle.pl_rewrite.specs.Copies as spec;
 ghost use Rattle.pl_rewrite.specs.Rows as rows;
 
@@ -202,7 +202,7 @@ fn fill_at(
 
 /// Whether a relocation has a place: NONE has none.
 fn has_place(reloc: &Reloc) -> bool
-    ensures { result ≡ has_place reloc.now }
+    ensures { result ≡ form.has_place reloc.now }
 {
     reloc.kind != R_X86_64_NONE
 }
