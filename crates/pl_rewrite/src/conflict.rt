@@ -210,8 +210,8 @@ fn own_near(alloc: Global, own: &[Meaning], ranges: &[Range]) -> Result<Vec<Mean
     ensures { IfOk result (λ v. v.items ≡ filter (spec.is_near_word ranges.now) own.now) }
 {
     own.iter()
-        .filter(|meaning| is_near_word(ranges, meaning))
         .copied()
+        .filter(|meaning| is_near_word(ranges, meaning))
         .collect(alloc)
 }
 
