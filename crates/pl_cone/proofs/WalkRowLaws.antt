@@ -1,5 +1,5 @@
 -- The rows of a folder's files that have walks, and those of a table that may be prelinked, for the crates above.
-use Rattle.std.proofs.Common.{◌≡◌, ℕ, zero, suc, ◌+◌, ◌<◌, Bool, true, false, List, [], ◌∷◌, length, get_or, map, Option, Some, None, Result, Ok, Err, refl, sym, ap, subst, ◌∙◌, arith, inl, inr}
+use Rattle.std.proofs.Common.{◌≡◌, ℕ, zero, suc, ◌+◌, ◌<◌, Bool, true, false, List, [], ◌∷◌, length, map, Option, Some, None, Result, Ok, Err, refl, sym, ap, subst, ◌∙◌, arith, inl, inr}
 use Rattle.std.specs.Prelude.{slice_get, if◌then◌else◌}
 use Rattle.std.specs.List.{IsDistinct}
 use Rattle.std.specs.Option.{option_map}
@@ -33,7 +33,6 @@ use Rattle.pl_cone.specs.Skips.{of_walk}
 use Rattle.pl_cone.specs.Table.{AreRows, AreWalks, IsRunTable, IsWalkOfFile, faults_of, folder_objects, has_no_cause, is_candidate_row, refusal_of, refusals_in, rows_in, walk_for, walk_of, walked_by}
 use Rattle.pl_cone.specs.Taken.{AreTaken, files_in, names_of, object_by}
 use Rattle.pl_cone.specs.WalkRows.{GivesOneWordAt, HasOwnWalk, IsCandidateRow, IsLibraryOf}
-use Rattle.pl_cone.specs.declared.link.Link.{Link}
 use Rattle.pl_cone.specs.declared.skip.Skip.{Skip}
 use Rattle.pl_cone.specs.declared.skip.Skip.TheVariants as skips
 use Rattle.pl_cone.specs.declared.table.RunTable.{RunTable}

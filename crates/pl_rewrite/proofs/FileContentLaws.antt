@@ -18,7 +18,6 @@ use Rattle.pl_rewrite.specs.Fills.{IsProgramSet, conflicts_with, fills_of, form_
 use Rattle.pl_rewrite.specs.RemainingRows.{RefusesAll}
 use Rattle.pl_rewrite.specs.Rows.{IsPlacedWalk, firms_of}
 use Rattle.pl_rewrite.specs.Sources.{AreSources}
-use Rattle.pl_rewrite.specs.declared.numbers.Numbered.{Numbered}
 use Rattle.pl_rewrite.specs.declared.numbers.PlacedWalk.{PlacedWalk}
 use Rattle.pl_rewrite.specs.declared.outcome.NewProgram.{NewProgram}
 use Rattle.pl_rewrite.specs.declared.program.Contents.{Contents}

@@ -1,5 +1,5 @@
 -- The bytes at the places of a program.
-use Rattle.std.proofs.Common.{◌≡◌, ℕ, zero, suc, ◌+◌, ◌<◌, ◌≤◌, Bool, true, false, List, [], ◌∷◌, ◌++◌, length, take, drop, get_or, Option, Some, None, refl, sym, ap, subst, ◌∙◌, append_assoc, arith}
+use Rattle.std.proofs.Common.{◌≡◌, ℕ, zero, suc, ◌+◌, ◌<◌, ◌≤◌, Bool, true, false, List, [], ◌∷◌, ◌++◌, length, take, get_or, Some, None, refl, sym, ap, subst, ◌∙◌, append_assoc, arith}
 use Rattle.std.specs.Prelude.{slice_get, if◌then◌else◌}
 use Rattle.std.specs.List.{AllZip}
 use Rattle.std.proofs.lemmas.List.{append-nil, take_all}
@@ -7,7 +7,6 @@ use Rattle.std.proofs.lemmas.Option.{none-some, same_Some}
 use Rattle.pl_base.specs.Memory.{Fill, filled, layered, read}
 use Rattle.pl_cone.specs.Taken.{object_by}
 use Rattle.pl_cone.specs.declared.taken.Taken.{Taken}
-use Rattle.pl_conflict.specs.Prelinked.{Firm}
 use Rattle.pl_form.specs.Files.{original_in}
 use Rattle.pl_form.specs.Words.{has_place}
 use Rattle.pl_form.specs.declared.file.Fill as form
@@ -17,10 +16,10 @@ use Rattle.pl_image.specs.declared.loaded_object.LoadedObject.{LoadedObject}
 use Rattle.pl_object.specs.declared.object.Object.{Object}
 use Rattle.pl_object.specs.declared.reloc.Reloc.{Reloc}
 use Rattle.pl_rewrite.specs.Copies.{AddsFill, AreBytesOf, AreCopied, AreProgramFills, FillsBy, FillsCopy, HasBytesAt, IsFill, IsFillAt, IsLoadedAt, IsPlacedRow, PutsFirst, loaded_for, place_of, given_places}
-use Rattle.pl_rewrite.specs.Rows.{IsFirmAt, IsNumbered, firm_by, number_at}
+use Rattle.pl_rewrite.specs.Rows.{firm_by, number_at}
 use Rattle.pl_rewrite.specs.declared.copies.Filling.{Filling}
 use Rattle.pl_rewrite.specs.declared.numbers.Numbered.{Numbered}
-use Rattle.pl_rewrite.proofs.FirmRowLaws.{IsRowOf, row_of, row_slot}
+use Rattle.pl_rewrite.proofs.FirmRowLaws.{row_of}
 use Rattle.pl_rewrite.proofs.RowTestLaws.{firm_there}
 use Rattle.pl_value.specs.declared.meaning.Meaning.{Meaning}
 

@@ -1,7 +1,7 @@
 -- Loops over the remaining relocations of members that gather conflict rows.
 use Rattle.std.proofs.Common.{◌≡◌, ℕ, zero, suc, ◌+◌, ◌-◌, ◌<◌, ◌≤◌, Bool, List, [], ◌∷◌, ◌++◌, true, length, map, drop, get_or, Option, Some, None, Result, Ok, Err, refl, sym, ap, subst, ◌∙◌, append_assoc, arith}
 use Rattle.std.specs.Prelude.{◌==◌, filter, slice_get, MatchBool, ⊤}
-use Rattle.std.specs.List.{All, AllZip}
+use Rattle.std.specs.List.{AllZip}
 use Rattle.std.specs.Option.{option_to_list}
 use Rattle.std.proofs.lemmas.Bool.{eq-eqb, eqb-true}
 use Rattle.std.proofs.lemmas.List.{append-nil, drop_more}
@@ -12,7 +12,7 @@ use Rattle.pl_base.specs.Bytes.{bytes64}
 use Rattle.pl_base.specs.Each.{each, with_front}
 use Rattle.pl_base.proofs.AnswerLaws.{ok_same}
 use Rattle.pl_base.proofs.EachLaws.{front_nothing}
-use Rattle.pl_conflict.specs.Quiet.{GivesQuiet, IsQuiet}
+use Rattle.pl_conflict.specs.Quiet.{IsQuiet}
 use Rattle.pl_conflict.specs.Between.{HoldsBetween}
 use Rattle.pl_conflict.specs.Conflicts.{held, row_of, rows_of}
 use Rattle.pl_conflict.proofs.MeaningLaws.{front_err, member_is, some_of}
@@ -33,7 +33,7 @@ use Rattle.pl_value.proofs.CollectingLaws.{member_more, member_stops, members_do
 use Rattle.pl_value.specs.declared.word.Word.{Word}
 use Rattle.pl_value.specs.declared.word.Word.TheVariants.{Put, Copy, Nothing}
 use Rattle.pl_value.proofs.MeaningLaws.{each_zip}
-use Rattle.pl_rewrite.specs.RemainingRows.{AddsMember, AddsNear, AddsRows, AreAllTold, AreNear, AreTold, HasValueAt, IsHeldOf, CanListRows, IsQuietAt, IsRowBy, RefusesMember, RefusesOne, TellsHeldOf, all_given, given_in, indexes, is_near_word, is_put, meaning_in, told_at, told_of}
+use Rattle.pl_rewrite.specs.RemainingRows.{AddsMember, AddsNear, AddsRows, AreAllTold, AreNear, AreTold, HasValueAt, CanListRows, IsQuietAt, IsRowBy, RefusesMember, RefusesOne, TellsHeldOf, all_given, given_in, indexes, is_near_word, is_put, meaning_in, told_at, told_of}
 use Rattle.pl_rewrite.specs.Ranges.{ranges_of}
 use Rattle.pl_rewrite.specs.declared.conflict.RemainingRows.{RemainingRows}
 use Rattle.pl_rewrite.specs.declared.held.HeldWord.{HeldWord}

@@ -12,7 +12,7 @@ use Rattle.pl_rewrite.specs.declared.row_words.RowWords.{RowWords}
 use Rattle.pl_scope.proofs.MemberLaws.{length_objects}
 use Rattle.pl_value.specs.Ordinary.{loaded_objects}
 use Rattle.pl_value.specs.declared.fault.OrdinaryFault.TheVariants.{Link}
-use Rattle.pl_rewrite.specs.RemainingRows.{AddsNear, AddsRows, TellsHeldOf, is_near_word, told_at}
+use Rattle.pl_rewrite.specs.RemainingRows.{AddsNear, AddsRows, TellsHeldOf, is_near_word}
 use Rattle.pl_rewrite.specs.Ranges.{ranges_of}
 use Rattle.pl_rewrite.proofs.RowsLaws.{listed_done, listed_more, listed_stops, near_is, object_at, first_listed, told_is}
 use Rattle.pl_rewrite.proofs.conflict.remaining_rows.Goals as goal
