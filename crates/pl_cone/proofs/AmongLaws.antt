@@ -1,19 +1,18 @@
 -- The index of a folder tells the definers of the members of a walk.
-use Rattle.std.proofs.Common.{◌≡◌, ◌≢◌, ℕ, zero, suc, ◌+◌, ◌<◌, ◌≤◌, Bool, true, false, List, [], ◌∷◌, length, map, replicate, set, Option, Some, None, refl, sym, ap, ◌∙◌, subst, arith, inl, inr}
-use Rattle.std.specs.Prelude.{◌==◌, filter, slice_get}
+use Rattle.std.proofs.Common.{◌≡◌, ◌≢◌, ℕ, zero, suc, ◌+◌, ◌<◌, ◌≤◌, Bool, true, false, List, [], ◌∷◌, length, replicate, set, Option, Some, None, refl, sym, ap, ◌∙◌, arith, inl, inr}
+use Rattle.std.specs.Prelude.{◌==◌, slice_get}
 use Rattle.std.specs.List.{filter_map, list_any, cons_option}
 use Rattle.std.specs.Option.{option_map}
 use Rattle.std.proofs.lemmas.Bool.{cases_Bool, false≢true, and_parts, or_left, or_right, eqb-true, eq-eqb}
 use Rattle.std.proofs.lemmas.Option.{none-some, same_Some, slice_get_within}
 use Rattle.pl_hash.specs.Hash.{gnu}
-use Rattle.pl_object.specs.declared.object.Object.{Object}
-use Rattle.pl_scope.specs.Folder.{IsFolderIndex, IsIndexAmong, position_in, position_of}
+use Rattle.pl_scope.specs.Folder.{IsFolderIndex, position_in, position_of}
 use Rattle.pl_scope.specs.Index.{entries_of, is_entry}
 use Rattle.pl_scope.specs.Scope.{objects}
 use Rattle.pl_scope.specs.Walk.{Walked}
 use Rattle.pl_scope.specs.declared.index.Entry.{Entry}
 use Rattle.pl_scope.proofs.MemberLaws.{length_objects}
-use Rattle.pl_cone.specs.Table.{AreRows, IsIndexOfScope, IsWalkScope, folder_objects, positions_from, positions_of, walked_by}
+use Rattle.pl_cone.specs.Table.{AreRows, IsIndexOfScope, IsWalkScope, folder_objects, positions_from, positions_of}
 use Rattle.pl_cone.specs.declared.scopes.WalkScope.{WalkScope}
 use Rattle.pl_cone.specs.declared.taken.Taken.{Taken}
 use Rattle.pl_cone.proofs.SingleLaws.{entry_there, object_at_row}

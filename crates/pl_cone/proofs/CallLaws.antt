@@ -1,5 +1,5 @@
 -- Whether a name may be prelinked, and what a run rewrites, by the columns of a table.
-use Rattle.std.proofs.Common.{◌≡◌, ℕ, zero, suc, ◌<◌, Bool, true, false, List, [], ◌∷◌, length, map, Option, Some, None, Result, Ok, Err, refl, sym, ap, ◌∙◌, arith}
+use Rattle.std.proofs.Common.{◌≡◌, ℕ, ◌<◌, Bool, true, false, List, [], ◌∷◌, length, map, Option, Some, None, Result, Ok, Err, refl, sym, ap, ◌∙◌, arith}
 use Rattle.std.specs.Prelude.{MatchBool, ⊤, ◌==◌, find, filter, not, slice_get, if◌then◌else◌}
 use Rattle.std.specs.List.{list_any}
 use Rattle.std.specs.Option.{option_map}
@@ -8,16 +8,13 @@ use Rattle.pl_base.specs.Answers.{◌>>=◌, Answers}
 use Rattle.pl_conflict.specs.Format.{format}
 use Rattle.pl_elf.specs.declared.range.Range.{Range}
 use Rattle.pl_scope.specs.Walk.{begun}
-use Rattle.pl_scope.specs.declared.constants.TheConstants.{MAX_MEMBERS}
 use Rattle.pl_scope.proofs.WalkLaws.{walk_begins, walk_lacks}
 use Rattle.pl_scope.proofs.WalkedLaws.{limit_is}
 use Rattle.pl_slots.specs.declared.slot.Slot.{Slot}
 use Rattle.law_sound.specs.Rule.{objects, object_at}
 use Rattle.pl_cone.specs.Calls.{caused, caused_at, cone, places_of, stale_of, stamp_of}
-use Rattle.pl_cone.specs.Candidates.{fit}
 use Rattle.pl_cone.specs.Currency.{greatest_of_files, run_stamp, stale_rows}
-use Rattle.pl_cone.specs.Plans as plans
-use Rattle.pl_cone.specs.Plans.{cause_of, is_stale, slot_of, stamp_after}
+use Rattle.pl_cone.specs.Plans.{cause_of, is_stale, stamp_after}
 use Rattle.pl_cone.specs.Skipped.{skip_causes, skip_of}
 use Rattle.pl_cone.specs.Skips.{of_walk}
 use Rattle.pl_cone.specs.Table.{IsRunTable, names_where, walk_for}

@@ -1,14 +1,14 @@
 -- The column of walks, row by row.
-use Rattle.std.proofs.Common.{◌≡◌, ℕ, zero, suc, ◌+◌, ◌<◌, ◌≤◌, Bool, true, false, List, [], ◌∷◌, ◌++◌, length, map, get_or, Option, Some, None, Result, Ok, Err, refl, sym, ap, ◌∙◌, subst, arith, inl, inr}
+use Rattle.std.proofs.Common.{◌≡◌, ℕ, zero, suc, ◌+◌, ◌<◌, ◌≤◌, true, false, List, [], ◌∷◌, ◌++◌, length, Option, Some, None, Result, Ok, Err, refl, sym, ap, ◌∙◌, subst, arith, inl, inr}
 use Rattle.std.specs.Option.{option_map}
 use Rattle.std.specs.Prelude.{slice_get, IfOk, IfErr, MatchBool, ⊤}
 use Rattle.std.proofs.lemmas.List.{length_push, length-map}
-use Rattle.std.proofs.lemmas.Option.{none-some, same_Some, slice_get-map, slice_get_within}
+use Rattle.std.proofs.lemmas.Option.{same_Some, slice_get-map, slice_get_within}
 use Rattle.pl_base.specs.Answers.{Answers}
 use Rattle.pl_scope.specs.Walk.{Walked}
 use Rattle.pl_cone.specs.Needs.{AddsWalk}
 use Rattle.pl_cone.specs.Skips.{skip_is_memory}
-use Rattle.pl_cone.specs.Table.{AreWalks, IsWalkAt, IsWalkOfFile, refusal_of, refusals_in, walk_at, walk_for, walk_named, walked_by}
+use Rattle.pl_cone.specs.Table.{AreWalks, IsWalkAt, IsWalkOfFile, refusal_of, refusals_in, walk_at, walk_for, walk_named}
 use Rattle.pl_cone.specs.declared.skip.Skip.{Skip}
 use Rattle.pl_cone.specs.declared.taken.Taken.{Taken}
 use Rattle.pl_cone.specs.declared.walking.FolderWalks.{FolderWalks}

@@ -1,10 +1,9 @@
 -- Stale rows and their stamps, by rows and by names.
-use Rattle.std.proofs.Common.{◌≡◌, ℕ, zero, suc, ◌+◌, ◌<◌, Bool, true, false, List, [], ◌∷◌, length, get_or, map, Option, Some, None, Result, Ok, Err, refl, sym, ap, subst, ◌∙◌, arith, inl, inr}
-use Rattle.std.specs.Prelude.{◌&&◌, ◌||◌, ◌==◌, not, is_some, filter, fold, max, nat_eq, slice_get, slice_index, if◌then◌else◌}
+use Rattle.std.proofs.Common.{◌≡◌, ℕ, zero, suc, ◌+◌, ◌<◌, Bool, true, false, List, [], ◌∷◌, length, map, Option, Some, None, Result, Ok, Err, refl, sym, ap, ◌∙◌, arith, inl, inr}
+use Rattle.std.specs.Prelude.{◌&&◌, ◌||◌, ◌==◌, not, filter, max, slice_get, slice_index, if◌then◌else◌}
 use Rattle.std.specs.List.{All, list_all, list_any, range_with_len}
 use Rattle.std.specs.Option.{option_map}
 use Rattle.std.specs.Result.{is_ok}
-use Rattle.std.specs.Str.{bytes_eq}
 use Rattle.std.proofs.lemmas.Bool.Decides.{nat_tests}
 use Rattle.std.proofs.lemmas.List.Elements.{All-nil, All-cons}
 use Rattle.std.proofs.lemmas.List.Folds.{fold-map}
@@ -14,32 +13,29 @@ use Rattle.pl_base.specs.Answers.{◌>>=◌, because}
 use Rattle.pl_conflict.specs.Format.{format, mark_of, row_of_list}
 use Rattle.pl_elf.specs.declared.range.Range.{Range}
 use Rattle.pl_form.specs.declared.file.Marked as form
-use Rattle.pl_scope.specs.Members.{names, others}
+use Rattle.pl_scope.specs.Members.{names}
 use Rattle.pl_scope.specs.Walk.{Walked}
 use Rattle.pl_slots.specs.declared.slot.Slot.{Slot}
 use Rattle.law_sound.specs.Plan as sound
 use Rattle.law_sound.specs.Plan.{is_library_at}
-use Rattle.law_sound.specs.Rule as rule
-use Rattle.law_sound.specs.Rule.{Mark, Row, mark_at, matches, members, names_of, objects, stamp_of, tells_walk, walk_in}
-use Rattle.pl_cone.specs.Currency.{all_held, is_held, stamps_of, greatest_of_files, greatest_by, greatest_in, greatest_of_file, held_at, held_rows, is_held_row, is_set, next_stamp_of_file, old_stamp, run_stamp, stale_at, stale_rows, stamp_at, stamp_by, stamp_in}
+use Rattle.law_sound.specs.Rule.{Row, mark_at, matches, members, names_of, stamp_of}
+use Rattle.pl_cone.specs.Currency.{all_held, is_held, stamps_of, greatest_of_files, greatest_by, greatest_of_file, held_at, held_rows, is_held_row, is_set, next_stamp_of_file, run_stamp, stale_at, stale_rows, stamp_at, stamp_by, stamp_in}
 use Rattle.pl_cone.specs.Candidates.{fit}
 use Rattle.pl_cone.specs.Faulted.{of_cone}
-use Rattle.pl_cone.specs.Fits.{fit_in}
 use Rattle.pl_cone.specs.Plans as plans
 use Rattle.pl_cone.specs.Plans.{cause_of, is_stale, slot_of, stamp_after, stale}
 use Rattle.pl_cone.specs.Skipped.{skip_causes, skip_of}
-use Rattle.pl_cone.specs.Table.{faults_of, AreRows, AreWalks, IsRunTable, has_no_cause, is_candidate_row, names_by, names_where, refusals_in, rows_in, walk_for, walk_of, walked_by}
+use Rattle.pl_cone.specs.Table.{faults_of, AreRows, IsRunTable, has_no_cause, is_candidate_row, names_by, names_where, rows_in, walk_for, walk_of, walked_by}
 use Rattle.pl_cone.specs.Taken as files
 use Rattle.pl_cone.specs.Taken.{AreTaken, files_in, is_library_entry, marked_by}
 use Rattle.pl_cone.specs.declared.asked.Asked.{Asked}
-use Rattle.pl_cone.specs.declared.fault.PlanningFault.{PlanningFault}
 use Rattle.pl_cone.specs.declared.skip.ConeFault.{ConeFault}
 use Rattle.pl_cone.specs.declared.skip.Skip.{Skip}
 use Rattle.pl_cone.specs.declared.table.RunTable.{RunTable}
 use Rattle.pl_cone.specs.declared.taken.Taken.{Taken}
 use Rattle.pl_cone.proofs.CandidateLaws.{candidate_is}
 use Rattle.pl_cone.proofs.HeldLaws.{held_is, library_at}
-use Rattle.pl_cone.proofs.ListLaws.{fold_same, off}
+use Rattle.pl_cone.proofs.ListLaws.{fold_same}
 use Rattle.pl_cone.proofs.MembersLaws.{HasMember, has_member_at, walked_cons}
 use Rattle.pl_cone.proofs.NumberLaws.{map_rows}
 use Rattle.pl_cone.proofs.RowLaws.{IsRow, row_is}

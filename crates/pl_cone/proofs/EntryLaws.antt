@@ -27,7 +27,6 @@ use Rattle.pl_object.specs.declared.refusal.Refusal.{Refusal}
 use Rattle.pl_object.specs.declared.refusal.Refusal.TheVariants.{Clause, NoMemory}
 use Rattle.pl_object.proofs.RefusalLaws.{reads_tells}
 use Rattle.pl_scope.specs.Scope.{IsAccepted}
-use Rattle.law_sound.specs.Rule as sound
 use Rattle.pl_cone.specs.Needs.{object_for}
 use Rattle.pl_cone.specs.Skipped.{skip_causes}
 use Rattle.pl_cone.specs.Taken.{entry_by, entry_in, marked_by, object_by}

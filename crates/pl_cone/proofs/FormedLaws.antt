@@ -1,23 +1,20 @@
 -- Whether the members of a walk have forms, row by row.
-use Rattle.std.proofs.Common.{◌≡◌, ℕ, zero, suc, ◌+◌, ◌<◌, List, [], ◌∷◌, length, drop, get_or, Option, Some, None, Result, Ok, Err, refl, sym, ap, subst, ◌∙◌, arith}
-use Rattle.std.specs.Prelude.{MatchBool, ⊤, find, slice_get}
+use Rattle.std.proofs.Common.{◌≡◌, ℕ, suc, ◌+◌, ◌<◌, List, [], ◌∷◌, length, drop, get_or, Option, Some, None, Result, Ok, Err, refl, sym, ap, subst, ◌∙◌, arith}
+use Rattle.std.specs.Prelude.{MatchBool, ⊤, slice_get}
 use Rattle.std.specs.List.{All}
-use Rattle.std.specs.Option.{option_and_then, option_map}
-use Rattle.std.specs.Str.{bytes_eq}
 use Rattle.std.proofs.lemmas.List.{get_or_default}
 use Rattle.std.proofs.lemmas.Option.{slice_get_read}
 use Rattle.pl_base.proofs.RunLaws.{run_more, run_fails}
 use Rattle.pl_base.specs.Answers.{◌>>=◌, unless_found}
 use Rattle.pl_base.specs.Each.{run}
 use Rattle.pl_elf.specs.declared.range.Range.{Range}
-use Rattle.pl_object.specs.declared.object.Object.{Object}
 use Rattle.pl_scope.specs.Members.{names}
 use Rattle.pl_scope.specs.Walk.{Walked}
 use Rattle.pl_cone.specs.Candidates.{formed, all_formed}
 use Rattle.pl_cone.specs.Linking.{formed_by}
 use Rattle.pl_cone.specs.Skips.{skip_is_memory}
-use Rattle.pl_cone.specs.Table.{faults_of, member_of, names_by, walked_by}
-use Rattle.pl_cone.specs.Taken.{AreTaken, object_by}
+use Rattle.pl_cone.specs.Table.{faults_of, names_by, walked_by}
+use Rattle.pl_cone.specs.Taken.{AreTaken}
 use Rattle.pl_cone.specs.declared.skip.Skip.{Skip}
 use Rattle.pl_cone.specs.declared.skip.Skip.TheVariants as skips
 use Rattle.pl_cone.specs.declared.taken.Taken.{Taken}

@@ -1,13 +1,12 @@
 -- Files that hold, by rows and by names.
-use Rattle.std.proofs.Common.{◌≡◌, ℕ, zero, suc, ◌+◌, ◌<◌, Bool, true, false, List, [], ◌∷◌, length, drop, map, Option, Some, None, Result, Ok, Err, refl, sym, ap, subst, ◌∙◌, arith, inl, inr}
-use Rattle.std.specs.Prelude.{◌&&◌, ◌||◌, ◌==◌, not, find, is_some, nat_eq, slice_get, slice_index}
-use Rattle.std.specs.List.{list_all, range_with_len}
+use Rattle.std.proofs.Common.{◌≡◌, ℕ, suc, ◌+◌, ◌<◌, Bool, true, false, List, [], ◌∷◌, length, map, Option, Some, None, Result, Ok, Err, refl, sym, ap, subst, ◌∙◌, arith}
+use Rattle.std.specs.Prelude.{◌&&◌, ◌||◌, ◌==◌, not, find, is_some, nat_eq, slice_get}
+use Rattle.std.specs.List.{list_all}
 use Rattle.std.specs.Option.{option_map}
 use Rattle.std.specs.Str.{bytes_eq}
 use Rattle.std.specs.Cmp.Lexicographic.{pointwise}
-use Rattle.std.proofs.lemmas.Option.{none-some, same_Some, slice_get_within}
+use Rattle.std.proofs.lemmas.Option.{none-some, same_Some}
 use Rattle.pl_conflict.specs.Format.{format, mark_of, number_of, row_of_list}
-use Rattle.pl_elf.specs.Kinds.{is_library}
 use Rattle.pl_elf.specs.declared.kind.Kind.TheVariants.{Library}
 use Rattle.pl_elf.specs.declared.range.Range.{Range}
 use Rattle.pl_form.specs.Words.{checksum_of}
@@ -25,8 +24,8 @@ use Rattle.pl_scope.proofs.WalkedLaws.{member_file}
 use Rattle.law_sound.specs.Plan as sound
 use Rattle.law_sound.specs.Plan.{is_library_at}
 use Rattle.law_sound.specs.Rule as rule
-use Rattle.law_sound.specs.Rule.{Files, Mark, Row, is_marked, mark_at, objects, original_at, row_at, row_eq, slot_of, stamp_of, tells_walk, version_of}
-use Rattle.pl_cone.specs.Currency.{holds, holds_at, holds_marked, is_held, is_row, is_row_of, is_two, lists_members, tells_marked}
+use Rattle.law_sound.specs.Rule.{Files, Mark, is_marked, mark_at, objects, original_at, row_at, row_eq, slot_of, stamp_of, tells_walk, version_of}
+use Rattle.pl_cone.specs.Currency.{holds_at, holds_marked, is_held, is_row, is_row_of, is_two, lists_members, tells_marked}
 use Rattle.pl_cone.specs.Needs.{object_for}
 use Rattle.pl_cone.specs.Skipped.{skip_causes}
 use Rattle.pl_cone.specs.Skips.{of_walk}
@@ -38,7 +37,7 @@ use Rattle.pl_cone.proofs.ListLaws.{off}
 use Rattle.pl_cone.proofs.MembersLaws.{HasMember, has_member_at, walked_cons}
 use Rattle.pl_cone.proofs.RowLaws.{IsRow, found_at, row_is}
 use Rattle.pl_cone.proofs.TellLaws.{later_member}
-use Rattle.pl_cone.proofs.WalkLaws.{library_entry, refusal_at, rows_told, walk_first}
+use Rattle.pl_cone.proofs.WalkLaws.{refusal_at, rows_told, walk_first}
 
 -- ---- tests
 

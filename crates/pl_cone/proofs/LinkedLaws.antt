@@ -13,10 +13,9 @@ use Rattle.pl_scope.specs.Walk.{Walked}
 use Rattle.pl_cone.specs.Candidates.{all_formed, kind_of, check_links}
 use Rattle.pl_cone.specs.Linking.{AreLibraryLinks, AreLinked, HasWalk, HaveDone, IsRow, IsRowLinked, IsRowUnlinked, IsWalked, LinksBy, LinksRow, Puts, fits, is_library_in, is_library_row, is_static_entry, libraries_to, none_done, others_to}
 use Rattle.pl_cone.specs.Links.{IsLinkOf, LinksProgram}
-use Rattle.pl_conflict.specs.Own.{FindAll}
 use Rattle.pl_cone.specs.Plans.{cause_of}
 use Rattle.pl_cone.specs.Skips.{skip_is_memory}
-use Rattle.pl_cone.specs.Table.{IsLinkBy, IsLinkKind, faults_of, walked_by}
+use Rattle.pl_cone.specs.Table.{IsLinkKind, faults_of, walked_by}
 use Rattle.pl_cone.specs.Taken.{is_library_entry}
 use Rattle.pl_cone.specs.declared.link.Link.{Link}
 use Rattle.pl_cone.specs.declared.linking.Linked.{Linked}
@@ -24,7 +23,7 @@ use Rattle.pl_cone.specs.declared.linking.WalkedFiles as walked
 use Rattle.pl_cone.specs.declared.skip.Skip.{Skip}
 use Rattle.pl_cone.specs.declared.skip.Skip.TheVariants as skips
 use Rattle.pl_cone.specs.declared.taken.Taken.{Taken}
-use Rattle.pl_cone.proofs.LinkingLaws.{IsPut, cause_is, done_kept, done_put, put_is, row_refused, row_walk}
+use Rattle.pl_cone.proofs.LinkingLaws.{cause_is, done_kept, done_put, put_is, row_refused, row_walk}
 use Rattle.pl_cone.proofs.TellLaws.{fit_library, fit_program, fit_static, library_kind, program_kind, static_kind}
 use Rattle.pl_cone.proofs.WalkLaws.{IsFirst, first_is, library_entry, static_entry}
 

@@ -1,16 +1,15 @@
 -- The columns of links and causes, row by row.
-use Rattle.std.proofs.Common.{◌≡◌, ◌≢◌, ℕ, ◌<◌, Bool, true, false, List, [], ◌∷◌, length, set, Option, Some, None, Result, Ok, Err, refl, sym, ap, subst, ◌∙◌, arith, inl, inr}
-use Rattle.std.specs.Prelude.{◌⊎◌, ◌==◌, MatchBool, ⊤, is_some, slice_get}
+use Rattle.std.proofs.Common.{◌≡◌, ◌≢◌, ℕ, ◌<◌, Bool, true, false, List, [], ◌∷◌, length, Option, Some, None, Result, Ok, Err, refl, sym, ap, subst, ◌∙◌, arith, inl, inr}
+use Rattle.std.specs.Prelude.{◌⊎◌, ◌==◌, MatchBool, ⊤, slice_get}
 use Rattle.std.proofs.lemmas.Bool.{cases_Bool, false≢true, eqb-true, eq-eqb}
-use Rattle.std.proofs.lemmas.Option.{none-some, same_Some, slice_get_cases, slice_get_within}
-use Rattle.pl_base.specs.Answers.{Answers}
+use Rattle.std.proofs.lemmas.Option.{none-some, same_Some, slice_get_cases}
 use Rattle.pl_elf.specs.declared.range.Range.{Range}
 use Rattle.pl_scope.specs.Walk.{Walked}
 use Rattle.pl_cone.specs.Linking.{HasWalk, HaveDone, IsRow, IsRowLinked, IsRowUnlinked, IsSized, IsWalked, LinksBy, LinksRow, Puts, fits}
 use Rattle.pl_cone.specs.Plans.{cause_of}
 use Rattle.pl_cone.specs.Skipped.{skip_of}
 use Rattle.pl_cone.specs.Skips.{skip_is_memory}
-use Rattle.pl_cone.specs.Table.{IsLinkBy, IsWalkOfFile, refusal_of, refusals_in, walk_for, walked_by}
+use Rattle.pl_cone.specs.Table.{IsLinkBy, refusal_of, walk_for, walked_by}
 use Rattle.pl_cone.specs.Taken.{AreTaken, files_in}
 use Rattle.pl_cone.specs.declared.link.Link.{Link}
 use Rattle.pl_cone.specs.declared.linking.Linked.{Linked}

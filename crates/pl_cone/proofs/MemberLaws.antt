@@ -6,7 +6,6 @@ use Rattle.std.proofs.lemmas.List.{length-map}
 use Rattle.std.proofs.lemmas.Option.{slice_get-map}
 use Rattle.pl_scope.proofs.MemberLaws.{length_walked, length_objects}
 use Rattle.pl_scope.proofs.WalkedLaws.{limit_is}
-use Rattle.pl_scope.specs.Members.{names}
 use Rattle.pl_scope.specs.Scope.{walked, objects, IsScope}
 use Rattle.pl_scope.specs.Walk.{Walked}
 use Rattle.pl_scope.specs.declared.constants.TheConstants.{MAX_MEMBERS}

@@ -5,16 +5,15 @@ use Rattle.std.specs.Prelude.{slice_get, ◌==◌, ◌⊎◌, IfOk, OnOk, Result
 use Rattle.pl_io.specs.declared.no_memory.NoMemory.{NoMemory}
 use Rattle.std.specs.Borrow.{Bor}
 use Rattle.std.specs.BTreeMap.{BTreeMap}
-use Rattle.std.specs.List.{All, AllByRecursion, IsDistinct, list_any}
+use Rattle.std.specs.List.{All, AllByRecursion, IsDistinct}
 use Rattle.std.specs.Map.{update}
 use Rattle.std.specs.Str.{bytes_eq}
-use Rattle.std.proofs.lemmas.Bool.{cases_Bool, cases_lt, cond-true, cond-false, false≢true, eqb-true, eqb-false, eq-eqb, ne_eqb}
-use Rattle.std.proofs.lemmas.List.{take_more, map_push, length_push, get_or_push, get_or_append_left, length-map}
-use Rattle.std.proofs.lemmas.List.Elements.{All-head, All-tail, All-nil, All-push, All-weaker, All-from_recursion}
+use Rattle.std.proofs.lemmas.Bool.{cases_Bool, cases_lt, cond-true, cond-false, false≢true}
+use Rattle.std.proofs.lemmas.List.{take_more, map_push, length_push, length-map}
+use Rattle.std.proofs.lemmas.List.Elements.{All-head, All-tail, All-push, All-weaker, All-from_recursion}
 use Rattle.std.proofs.lemmas.Option.{none-some, same_Some, slice_get-map, slice_get_within, slice_get_read, get_or_from_slice_get}
-use Rattle.pl_base.proofs.FindLaws.{any_map}
-use Rattle.pl_scope.proofs.NameLaws.{same_name, eq_refl, eq_flip}
-use Rattle.pl_cone.specs.Needs.{words, told, AreNumbers, KeepNumbers, told_name, numbered_name, Tell, TellAll, needed_by, AreNeeds, all_names, all_needed, name_of, needed_at, numbers_at}
+use Rattle.pl_scope.proofs.NameLaws.{same_name, eq_refl}
+use Rattle.pl_cone.specs.Needs.{words, told, AreNumbers, KeepNumbers, told_name, numbered_name, Tell, TellAll, needed_by, AreNeeds, all_names}
 use Rattle.pl_cone.specs.Taken.{names_of}
 use Rattle.pl_cone.specs.declared.needs.Needs.{Needs}
 use Rattle.pl_cone.specs.declared.taken.Taken.{Taken}

@@ -1,6 +1,6 @@
 -- A plan by the rows of a table is the one of its files.
 use Rattle.std.proofs.Common.{◌≡◌, ℕ, Bool, true, false, List, [], ◌∷◌, length, map, Option, Some, None, Result, Ok, Err, refl, sym, ap, ◌∙◌}
-use Rattle.std.specs.Prelude.{MatchBool, ⊤, filter, slice_get, if◌then◌else◌}
+use Rattle.std.specs.Prelude.{MatchBool, ⊤, slice_get, if◌then◌else◌}
 use Rattle.std.specs.Option.{option_map}
 use Rattle.std.proofs.lemmas.List.{length-map}
 use Rattle.std.proofs.lemmas.List.FromFn.{length-map-range_with_len}
@@ -25,7 +25,6 @@ use Rattle.pl_cone.specs.Taken as files
 use Rattle.pl_cone.specs.Taken.{files_in, is_library_entry, object_by, object_of}
 use Rattle.pl_cone.specs.declared.asked.Asked.{Asked}
 use Rattle.pl_cone.specs.declared.fault.PlanningFault.{PlanningFault}
-use Rattle.pl_cone.specs.declared.plan.RowPlan.{RowPlan}
 use Rattle.pl_cone.specs.declared.skip.ConeFault.{ConeFault}
 use Rattle.pl_cone.specs.declared.skip.ConeFault.TheVariants as cone
 use Rattle.pl_cone.specs.declared.skip.Skip.{Skip}

@@ -1,5 +1,5 @@
 -- Whether one name may be prelinked, by the row of its file; and what a run at given slots rewrites.
-use Rattle.std.proofs.Common.{◌≡◌, ◌<◌, ℕ, Bool, true, false, List, length, Option, Some, None, Result, Ok, Err, refl, sym, ap, subst, ◌∙◌, arith}
+use Rattle.std.proofs.Common.{◌≡◌, ◌<◌, ℕ, Bool, true, false, List, length, Some, Result, Ok, Err, sym, ap, subst, ◌∙◌, arith}
 use Rattle.std.specs.Prelude.{MatchBool, ⊤, slice_get}
 use Rattle.std.specs.Str.{bytes_eq}
 use Rattle.std.proofs.lemmas.List.{length-map}
@@ -17,7 +17,6 @@ use Rattle.pl_cone.specs.Table.{IsRunTable, IsRunTableOfAny, names_where}
 use Rattle.pl_cone.specs.Taken.{AreTaken, files_in}
 use Rattle.pl_cone.specs.declared.calls.Cone.{Cone}
 use Rattle.pl_cone.specs.declared.skip.ConeFault.{ConeFault}
-use Rattle.pl_cone.specs.declared.skip.Skip.{Skip}
 use Rattle.pl_cone.specs.declared.table.RunTable.{RunTable}
 use Rattle.pl_cone.specs.declared.taken.Taken.{Taken}
 use Rattle.pl_cone.proofs.CallLaws.{cone_is, cone_names, cone_stamp, cone_stops, row_skip}

@@ -1,5 +1,5 @@
 -- Whether the members of a program's walk link, by those of its relocations that may have no value.
-use Rattle.std.proofs.Common.{◌≡◌, ℕ, ◌+◌, ◌<◌, List, [], ◌∷◌, ◌++◌, length, drop, map, Option, Some, None, Result, Ok, Err, refl, sym, ap, ◌∙◌, arith, inl, inr}
+use Rattle.std.proofs.Common.{◌≡◌, ℕ, ◌+◌, ◌<◌, List, [], ◌∷◌, ◌++◌, length, drop, map, Option, Some, Result, Ok, Err, refl, sym, ap, ◌∙◌, arith, inl, inr}
 use Rattle.std.specs.Prelude.{slice_get}
 use Rattle.std.proofs.lemmas.Option.{slice_get_cases}
 use Rattle.pl_base.specs.Answers.{◌>>=◌, because}
@@ -17,7 +17,7 @@ use Rattle.pl_value.specs.declared.fault.LinkFault.{LinkFault}
 use Rattle.pl_value.specs.declared.meaning.Meaning.{Meaning}
 use Rattle.pl_value.proofs.CollectingLaws.{rows_more}
 use Rattle.pl_cone.specs.Candidates.{blocks, check_links, of_link, resolved, zeros}
-use Rattle.pl_cone.specs.Links.{done, first_rows, others_have, rows_have_in}
+use Rattle.pl_cone.specs.Links.{first_rows, others_have, rows_have_in}
 use Rattle.pl_cone.specs.Skips.{of_tls}
 use Rattle.pl_cone.specs.declared.values.WalkLinking.{WalkLinking}
 use Rattle.pl_cone.proofs.ValueLaws.{each_has, have_more, have_stops}

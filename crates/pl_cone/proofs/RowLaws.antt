@@ -1,5 +1,5 @@
 -- What a folder tells of the name of a file that was taken.
-use Rattle.std.proofs.Common.{◌≡◌, ℕ, zero, suc, Bool, true, false, List, [], ◌∷◌, length, Option, Some, None, Result, Ok, refl, sym, ap, subst, ◌∙◌, inl, inr}
+use Rattle.std.proofs.Common.{◌≡◌, ℕ, zero, suc, Bool, true, false, List, [], ◌∷◌, Option, Some, None, refl, sym, ap, subst, ◌∙◌, inl, inr}
 use Rattle.std.specs.Prelude.{find, slice_get}
 use Rattle.std.specs.List.{All, AllByRecursion, IsDistinct}
 use Rattle.std.specs.Option.{option_and_then, option_map}
@@ -18,12 +18,12 @@ use Rattle.pl_object.specs.declared.object.Object.{Object}
 use Rattle.pl_scope.specs.Scope.{IsAccepted}
 use Rattle.pl_scope.proofs.MemberLaws.{all_at}
 use Rattle.pl_scope.proofs.NameLaws.{eq_refl}
-use Rattle.law_sound.specs.Rule.{Files, mark_at, object_at, objects, original_at}
+use Rattle.law_sound.specs.Rule.{mark_at, object_at, objects, original_at}
 use Rattle.pl_cone.specs.Faults.{fault_in}
 use Rattle.pl_cone.specs.Needs.{object_for}
 use Rattle.pl_cone.specs.Skipped.{skip_causes, fault_at}
 use Rattle.pl_cone.specs.Table.{faults_of}
-use Rattle.pl_cone.specs.Taken.{AreTaken, IsTaken, entry_in, files_in, marked_by, names_of, object_by, taken_of}
+use Rattle.pl_cone.specs.Taken.{AreTaken, IsTaken, files_in, marked_by, names_of, object_by, taken_of}
 use Rattle.pl_cone.specs.declared.taken.Taken.{Taken}
 use Rattle.pl_cone.proofs.EntryLaws.{IsTold, entry_told}
 use Rattle.pl_cone.proofs.FaultLaws.{nothing_fault}

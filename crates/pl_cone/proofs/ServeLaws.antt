@@ -1,5 +1,5 @@
 -- Slots that serve wants have their names, in their order.
-use Rattle.std.proofs.Common.{◌≡◌, ℕ, zero, suc, ◌<◌, List, [], ◌∷◌, length, map, refl, ap, ◌∙◌, arith}
+use Rattle.std.proofs.Common.{◌≡◌, ℕ, suc, ◌<◌, List, [], ◌∷◌, map, refl, ap, ◌∙◌, arith}
 use Rattle.pl_elf.specs.declared.range.Range.{Range}
 use Rattle.pl_share.specs.Shared as shared
 use Rattle.pl_slots.specs.Plan as apart

@@ -1,7 +1,7 @@
 -- A hash that has one entry in the index of a folder is that of a name that one object at most defines.
-use Rattle.std.proofs.Common.{◌≡◌, ◌≢◌, ℕ, zero, suc, ◌+◌, ◌<◌, ◌≤◌, Bool, true, false, List, [], ◌∷◌, ◌++◌, length, get_or, map, Option, Some, None, refl, sym, ap, ◌∙◌, subst, arith, inl, inr}
-use Rattle.std.specs.Prelude.{◌⊎◌, ◌==◌, ◌&&◌, find, filter, slice_get}
-use Rattle.std.specs.List.{filter_map, list_any, IsDistinct}
+use Rattle.std.proofs.Common.{◌≡◌, ◌≢◌, ℕ, zero, suc, ◌+◌, ◌<◌, ◌≤◌, Bool, true, false, List, [], ◌∷◌, ◌++◌, length, get_or, Option, Some, None, refl, sym, ap, ◌∙◌, subst, arith, inl, inr}
+use Rattle.std.specs.Prelude.{◌⊎◌, ◌==◌, ◌&&◌, find, slice_get}
+use Rattle.std.specs.List.{filter_map, list_any}
 use Rattle.std.specs.Option.{option_and_then}
 use Rattle.std.specs.Str.{bytes_eq}
 use Rattle.std.proofs.lemmas.Bool.{cases_Bool, false≢true, and_parts, or_left, or_right, eqb-true, eq-eqb}
@@ -11,7 +11,7 @@ use Rattle.pl_base.proofs.MemoryLaws.{any-filter_map, is_some_and}
 use Rattle.pl_elf.specs.Kinds.{is_program}
 use Rattle.pl_hash.specs.Hash.{gnu}
 use Rattle.pl_object.specs.declared.object.Object.{Object}
-use Rattle.pl_scope.specs.Folder.{HasOneEntryAtMost, IsFolderIndex, all_entries, all_from}
+use Rattle.pl_scope.specs.Folder.{IsFolderIndex, all_from}
 use Rattle.pl_scope.specs.Index.{entries_of, entry_of, is_entry}
 use Rattle.pl_scope.specs.declared.index.Entry.{Entry}
 use Rattle.pl_scope.proofs.NameLaws.{same_name}

@@ -1,14 +1,13 @@
 -- What does not vary in a library has a value in each program's walk.
-use Rattle.std.proofs.Common.{◌≡◌, ℕ, zero, suc, ◌<◌, Bool, true, false, List, [], ◌∷◌, length, replicate, get_or, Option, Some, None, Result, Ok, Err, refl, sym, ap, subst, ◌∙◌, arith, inl, inr}
-use Rattle.std.specs.Prelude.{◌⊎◌, find, slice_get, slice_index, slice_index_or, map, if◌then◌else◌}
-use Rattle.std.specs.Option.{option_map}
-use Rattle.std.proofs.lemmas.Option.{none-some, same_Some, slice_get_cases, slice_get_within, slice_get-map}
-use Rattle.pl_base.specs.Answers.{◌>>=◌, unless, unless_found}
+use Rattle.std.proofs.Common.{◌≡◌, ℕ, zero, suc, ◌<◌, true, false, List, [], ◌∷◌, length, replicate, Option, Some, None, Result, Ok, Err, refl, sym, ap, subst, ◌∙◌, arith, inl, inr}
+use Rattle.std.specs.Prelude.{◌⊎◌, slice_get, slice_index, slice_index_or, if◌then◌else◌}
+use Rattle.std.proofs.lemmas.Option.{same_Some, slice_get_cases, slice_get_within}
+use Rattle.pl_base.specs.Answers.{◌>>=◌, unless_found}
 use Rattle.pl_base.specs.Each.{run}
 use Rattle.pl_conflict.proofs.BetweenLaws.{between_weaker}
 use Rattle.pl_conflict.specs.Between.{HoldsBetween}
 use Rattle.pl_conflict.specs.Format.{format}
-use Rattle.pl_elf.specs.Kinds.{is_library, is_program, is_static}
+use Rattle.pl_elf.specs.Kinds.{is_library, is_static}
 use Rattle.pl_elf.specs.declared.kind.Kind.{Kind}
 use Rattle.pl_elf.specs.declared.kind.Kind.TheVariants.{Program, Library, Static}
 use Rattle.pl_elf.specs.declared.range.Range.{Range}
@@ -17,27 +16,23 @@ use Rattle.pl_object.specs.declared.reloc.Reloc.{Reloc}
 use Rattle.pl_scope.specs.Members.{names, has, IsLinked}
 use Rattle.pl_scope.specs.Scope.{objects}
 use Rattle.pl_scope.specs.Walk.{Walked}
-use Rattle.pl_scope.specs.declared.index.Entry.{Entry}
-use Rattle.pl_scope.proofs.NameLaws.{has_at, has_cons, has_head, has_tail}
+use Rattle.pl_scope.proofs.NameLaws.{has_cons, has_head, has_tail}
 use Rattle.pl_scope.proofs.StepLaws.{err_ok, same_ok}
 use Rattle.pl_scope.proofs.WalkedLaws.{member_file, member_walk_within}
 use Rattle.law_sound.specs.Rule as sound
 use Rattle.pl_value.specs.Meanings.{meaning, row, given}
-use Rattle.pl_value.specs.Targets.{base_of}
 use Rattle.pl_value.specs.Values.{relocations_in, value_of}
 use Rattle.pl_value.specs.declared.word.Word.{Word}
 use Rattle.pl_cone.specs.Candidates.{all_formed, fit, formed, kind_of, check_links, zeros}
-use Rattle.pl_cone.specs.OneWord.{GivesOneWordBy, GivesOneWord}
-use Rattle.pl_cone.specs.Folder.{IsMadeOf, IsMember}
+use Rattle.pl_cone.specs.OneWord.{GivesOneWord}
 use Rattle.pl_cone.specs.Linking.{AreLibraryLinks, HasWalk, IsWalked, fits, is_library_in, is_library_row}
-use Rattle.pl_cone.specs.Links.{HasValue, HasValueOf, GivesOneWordOf, IsLinkOf, TellLinks, TellsOf, objects_of}
+use Rattle.pl_cone.specs.Links.{HasValue, HasValueOf, GivesOneWordOf, IsLinkOf, TellLinks}
 use Rattle.pl_cone.specs.Skipped.{skip_causes}
 use Rattle.pl_cone.specs.Skips.{of_walk}
 use Rattle.pl_cone.specs.Table.{faults_of, walk_for, walked_by}
 use Rattle.pl_cone.specs.Taken.{AreTaken, files_in}
 use Rattle.pl_cone.specs.declared.link.Link.{Link}
 use Rattle.pl_cone.specs.declared.linking.WalkedFiles as walked
-use Rattle.pl_cone.specs.declared.skip.Skip.{Skip}
 use Rattle.pl_cone.specs.declared.skip.Skip.TheVariants as skips
 use Rattle.pl_cone.specs.declared.taken.Taken.{Taken}
 use Rattle.pl_cone.specs.declared.values.WalkLinking.{WalkLinking}

@@ -1,14 +1,13 @@
 -- The walk of a row: what was walked by numbers so far, and what is still to come, are the walk of its name.
-use Rattle.std.proofs.Common.{◌≡◌, ℕ, zero, suc, ◌+◌, ◌<◌, ◌≤◌, Bool, true, false, ◌&&◌, List, [], ◌∷◌, ◌++◌, length, map, take, get_or, Option, Some, None, Result, Ok, Err, refl, sym, ap, ◌∙◌, subst, arith, inl, inr}
-use Rattle.std.specs.Prelude.{slice_get, find, nat_lt, ◌⊎◌, MatchBool, ⊤}
-use Rattle.std.specs.List.{All, filter_map}
+use Rattle.std.proofs.Common.{◌≡◌, ℕ, suc, ◌+◌, ◌<◌, ◌≤◌, false, ◌&&◌, List, [], ◌∷◌, ◌++◌, length, map, take, Option, Some, None, Result, Ok, Err, refl, sym, ap, ◌∙◌, subst, arith, inl, inr}
+use Rattle.std.specs.Prelude.{slice_get, find, nat_lt, ◌⊎◌, ⊤}
 use Rattle.std.specs.Option.{option_map}
 use Rattle.std.specs.Str.{bytes_eq}
-use Rattle.std.proofs.lemmas.Bool.{cases_Bool, cases_lt, cond-true, cond-false, lt-ltb}
-use Rattle.std.proofs.lemmas.List.{append-nil, take_all, take_more, take-take, length_push, length-take, length-map}
+use Rattle.std.proofs.lemmas.Bool.{cases_Bool, cases_lt, cond-true, cond-false}
+use Rattle.std.proofs.lemmas.List.{take_all, take_more, take-take, length_push, length-take, length-map}
 use Rattle.std.proofs.lemmas.List.Elements.{All-nil, All-push, filter_map-append}
-use Rattle.std.proofs.lemmas.Option.{none-some, same_Some, slice_get-map, slice_get_within, slice_get_past, slice_get-get_or, get_or_from_slice_get}
-use Rattle.pl_base.specs.Answers.{◌>>=◌, because, Answers}
+use Rattle.std.proofs.lemmas.Option.{none-some, same_Some, slice_get-map, slice_get_within, slice_get_past, get_or_from_slice_get}
+use Rattle.pl_base.specs.Answers.{◌>>=◌, because}
 use Rattle.pl_base.proofs.AnswerLaws.{bind_ok, bind_err, because_ok, because_err, ok_same}
 use Rattle.pl_conflict.specs.Format.{format}
 use Rattle.pl_form.specs.declared.file.Entry.{Entry}
@@ -18,15 +17,14 @@ use Rattle.pl_scope.specs.Walk as scope
 use Rattle.pl_scope.specs.Walk.{Walked, give, of_wanted}
 use Rattle.pl_scope.specs.Walking.{Walking, wants}
 use Rattle.pl_scope.specs.declared.constants.TheConstants.{MAX_MEMBERS}
-use Rattle.pl_scope.specs.declared.fault.WalkFault.{WalkFault}
 use Rattle.pl_scope.proofs.NameLaws.{same_name}
 use Rattle.pl_scope.proofs.WalkLaws.{walk_begins, walk_goes_on, walk_lacks, walk_stops, walk_ends}
 use Rattle.law_sound.specs.Rule as sound
 use Rattle.law_sound.specs.Rule.{objects}
-use Rattle.pl_cone.specs.Needs.{IsNumberWalk, IsMore, walk_names, state, entered, entered_at, state_after, is_program_row, AreNeeds, AreNumberedFiles, all_names, name_of, told_name, object_at, object_for, object_by_number}
-use Rattle.pl_cone.specs.Skips.{skip_is_memory, of_walk}
+use Rattle.pl_cone.specs.Needs.{IsNumberWalk, IsMore, state, entered, entered_at, state_after, is_program_row, AreNeeds, AreNumberedFiles, all_names, name_of, told_name, object_at, object_for, object_by_number}
+use Rattle.pl_cone.specs.Skips.{of_walk}
 use Rattle.pl_cone.specs.Skipped.{skip_causes}
-use Rattle.pl_cone.specs.Table.{AreBelow, member_of, walked_by, AreRows, walk_for, walk_named, walk_at, IsWalkAt}
+use Rattle.pl_cone.specs.Table.{AreBelow, member_of, walked_by, walk_named, walk_at, IsWalkAt}
 use Rattle.pl_cone.specs.Taken.{files_in, object_by, object_of}
 use Rattle.pl_cone.specs.declared.needs.Needs.{Needs}
 use Rattle.pl_cone.specs.declared.skip.Skip.{Skip}

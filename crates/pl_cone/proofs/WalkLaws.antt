@@ -1,16 +1,14 @@
 -- The walk of a file's name: its first object, its members' objects, and the walks within it.
-use Rattle.std.proofs.Common.{◌≡◌, ℕ, zero, suc, ◌<◌, Bool, true, false, List, [], ◌∷◌, length, drop, Option, Some, None, Result, Ok, Err, refl, sym, ap, subst, ◌∙◌, arith, inl, inr}
-use Rattle.std.specs.Prelude.{◌⊎◌, find, slice_get, map}
+use Rattle.std.proofs.Common.{◌≡◌, ℕ, suc, ◌<◌, List, [], ◌∷◌, length, drop, Option, Some, None, Result, Ok, Err, refl, sym, ap, subst, ◌∙◌, arith, inl, inr}
+use Rattle.std.specs.Prelude.{◌⊎◌, find, slice_get}
 use Rattle.std.specs.List.{All}
 use Rattle.std.specs.Option.{option_and_then, option_map}
 use Rattle.std.specs.Str.{bytes_eq}
 use Rattle.std.proofs.lemmas.List.Elements.{All-nil, All-tail}
 use Rattle.std.proofs.lemmas.Option.{none-some, same_Some, slice_get_cases, slice_get-map}
-use Rattle.pl_conflict.specs.Format.{format, read_original}
+use Rattle.pl_conflict.specs.Format.{format}
 use Rattle.pl_elf.specs.Kinds.{is_library, is_static}
-use Rattle.pl_elf.specs.declared.kind.Kind.{Kind}
 use Rattle.pl_elf.specs.declared.range.Range.{Range}
-use Rattle.pl_form.specs.Files.{original_in}
 use Rattle.pl_form.specs.declared.file.Entry.{Entry}
 use Rattle.pl_form.specs.declared.file.Entry.TheVariants.{There, BadMark, Refused}
 use Rattle.pl_object.specs.declared.object.Object.{Object}
@@ -21,7 +19,7 @@ use Rattle.pl_scope.proofs.WalkedLaws.{member_file, walk_distinct}
 use Rattle.law_sound.specs.Rule.{object_at, objects}
 use Rattle.pl_cone.specs.Candidates.{kind_of}
 use Rattle.pl_cone.specs.Folder.{IsMadeOf, IsMember}
-use Rattle.pl_cone.specs.Linking.{HasWalk, IsWalked, is_library_row, is_static_entry}
+use Rattle.pl_cone.specs.Linking.{HasWalk, IsWalked, is_static_entry}
 use Rattle.pl_cone.specs.Needs.{object_for}
 use Rattle.pl_cone.specs.Skipped.{skip_causes}
 use Rattle.pl_cone.specs.Skips.{of_walk}
@@ -31,8 +29,7 @@ use Rattle.pl_cone.specs.declared.linking.WalkedFiles as walked
 use Rattle.pl_cone.specs.declared.skip.Skip.{Skip}
 use Rattle.pl_cone.specs.declared.table.RunTable.{RunTable}
 use Rattle.pl_cone.specs.declared.taken.Taken.{Taken}
-use Rattle.pl_cone.specs.declared.walking.FolderWalks.{FolderWalks}
-use Rattle.pl_cone.proofs.EntryLaws.{IsTold, entry_told}
+use Rattle.pl_cone.proofs.EntryLaws.{IsTold}
 use Rattle.pl_cone.proofs.MembersLaws.{AreOnce, HasMember, has_member_at, once_members, walked_cons}
 use Rattle.pl_cone.proofs.RowLaws.{IsRow, row_is, found_holds, taken_entry}
 use Rattle.pl_cone.proofs.SingleLaws.{folder_by}

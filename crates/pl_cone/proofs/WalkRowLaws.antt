@@ -1,5 +1,5 @@
 -- The rows of a folder's files that have walks, and those of a table that may be prelinked, for the crates above.
-use Rattle.std.proofs.Common.{◌≡◌, ℕ, zero, suc, ◌+◌, ◌<◌, Bool, true, false, List, [], ◌∷◌, length, get_or, map, Option, Some, None, Result, Ok, Err, refl, sym, ap, subst, ◌∙◌, arith, inl, inr}
+use Rattle.std.proofs.Common.{◌≡◌, ℕ, zero, suc, ◌+◌, ◌<◌, Bool, true, false, List, [], ◌∷◌, length, map, Option, Some, None, Result, Ok, Err, refl, sym, ap, subst, ◌∙◌, arith, inl, inr}
 use Rattle.std.specs.Prelude.{slice_get, if◌then◌else◌}
 use Rattle.std.specs.List.{IsDistinct}
 use Rattle.std.specs.Option.{option_map}
@@ -33,7 +33,6 @@ use Rattle.pl_cone.specs.Skips.{of_walk}
 use Rattle.pl_cone.specs.Table.{AreRows, AreWalks, IsRunTable, IsWalkOfFile, faults_of, folder_objects, has_no_cause, is_candidate_row, refusal_of, refusals_in, rows_in, walk_for, walk_of, walked_by}
 use Rattle.pl_cone.specs.Taken.{AreTaken, files_in, names_of, object_by}
 use Rattle.pl_cone.specs.WalkRows.{GivesOneWordAt, HasOwnWalk, IsCandidateRow, IsLibraryOf}
-use Rattle.pl_cone.specs.declared.link.Link.{Link}
 use Rattle.pl_cone.specs.declared.skip.Skip.{Skip}
 use Rattle.pl_cone.specs.declared.skip.Skip.TheVariants as skips
 use Rattle.pl_cone.specs.declared.table.RunTable.{RunTable}
@@ -223,23 +222,23 @@ no_skip : (r : Result (Unit {0}) Skip) → cause_of r ≡ None → r ≡ Ok tt
 no_skip (Ok u) is = refl
 no_skip (Err e) is = absurd (none-some e (sym is))
 
-some_walk : (r : Result Walked Skip) (f : Walked → Result (Unit {0}) Skip) → (r >>= f) ≡ Ok tt → (ws : Walked) × (r ≡ Ok ws)
-some_walk (Ok ws) f is = (ws, refl)
+some_walk : (r : Result Walked Skip) (f : Walked → Result (Unit {0}) Skip) → (r >>= f) ≡ Ok tt → (w : Walked) × (r ≡ Ok w)
+some_walk (Ok w) f is = (w, refl)
 some_walk (Err e) f is = absurd (err_ok e tt is)
 
 some_unit : (r s : Result (Unit {0}) Skip) → (r >>= λ _. s) ≡ Ok tt → r ≡ Ok tt
 some_unit (Ok u) s is = refl
 some_unit (Err e) s is = absurd (err_ok e tt is)
 
-fit_linked : (faults : List ℕ → Option ℕ) (n : List ℕ) (ws : Walked) (kind : Kind) → kind_of ws ≡ kind → fit faults n ws ≡ Ok tt → IsLinked kind
-fit_linked faults n ws Library at is = inl refl
-fit_linked faults n ws Program at is = inr refl
-fit_linked faults n ws Static at is = absurd (err_ok (skips.Static n) tt (sym (fit_static faults n ws at) ∙ is))
+fit_linked : (faults : List ℕ → Option ℕ) (n : List ℕ) (w : Walked) (kind : Kind) → kind_of w ≡ kind → fit faults n w ≡ Ok tt → IsLinked kind
+fit_linked faults n w Library at is = inl refl
+fit_linked faults n w Program at is = inr refl
+fit_linked faults n w Static at is = absurd (err_ok (skips.Static n) tt (sym (fit_static faults n w at) ∙ is))
 
-fit_formed : (faults : List ℕ → Option ℕ) (n : List ℕ) (ws : Walked) (kind : Kind) → kind_of ws ≡ kind → fit faults n ws ≡ Ok tt → all_formed faults (names ws) ≡ Ok tt
-fit_formed faults n ws Library at is = sym (fit_library faults n ws at) ∙ is
-fit_formed faults n ws Program at is = some_unit (all_formed faults (names ws)) (check_links ws) (sym (fit_program faults n ws at) ∙ is)
-fit_formed faults n ws Static at is = absurd (err_ok (skips.Static n) tt (sym (fit_static faults n ws at) ∙ is))
+fit_formed : (faults : List ℕ → Option ℕ) (n : List ℕ) (w : Walked) (kind : Kind) → kind_of w ≡ kind → fit faults n w ≡ Ok tt → all_formed faults (names w) ≡ Ok tt
+fit_formed faults n w Library at is = sym (fit_library faults n w at) ∙ is
+fit_formed faults n w Program at is = some_unit (all_formed faults (names w)) (check_links w) (sym (fit_program faults n w at) ∙ is)
+fit_formed faults n w Static at is = absurd (err_ok (skips.Static n) tt (sym (fit_static faults n w at) ∙ is))
 
 module _ (region : Range) (t : RunTable) (is : IsRunTable region t) where
   abbrev ts : List Taken

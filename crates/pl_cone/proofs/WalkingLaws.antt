@@ -1,23 +1,22 @@
 -- A walk by the numbers of names goes as pl_scope's walk goes by the names.
-use Rattle.std.proofs.Common.{◌≡◌, ◌≢◌, ℕ, zero, suc, ◌+◌, ◌<◌, ◌≤◌, Bool, true, false, ◌||◌, ◌&&◌, not, cond, List, [], ◌∷◌, ◌++◌, length, map, take, set, replicate, get_or, Option, Some, None, Result, Ok, Err, refl, sym, ap, ◌∙◌, subst, arith, inl, inr}
+use Rattle.std.proofs.Common.{◌≡◌, ◌≢◌, ℕ, zero, suc, ◌+◌, ◌<◌, ◌≤◌, Bool, true, false, ◌||◌, ◌&&◌, cond, List, [], ◌∷◌, ◌++◌, length, map, take, set, replicate, get_or, Option, Some, None, Result, Ok, Err, refl, sym, ap, ◌∙◌, subst, arith, inl, inr}
 use Rattle.std.specs.Prelude.{slice_get, find, nat_lt, nat_le, ◌==◌, ◌⊎◌, MatchBool, ⊤}
-use Rattle.std.specs.List.{All, list_any}
+use Rattle.std.specs.List.{list_any}
 use Rattle.std.specs.Str.{bytes_eq}
-use Rattle.std.proofs.lemmas.Bool.{cases_Bool, cases_lt, cases_eq, cond-true, cond-false, false≢true, true≢false, eqb-true, eqb-false, eq-eqb, ne_eqb, lt-ltb, le-leb, lt-leb, or_left, or_from}
-use Rattle.std.proofs.lemmas.List.{take_all, take_at, length_push, map_push, length-set, length-map, length-take, length-replicate, get_or-replicate, take-take}
+use Rattle.std.proofs.lemmas.Bool.{cases_Bool, cases_eq, false≢true, true≢false, eq-eqb, ne_eqb, lt-ltb, le-leb, lt-leb, or_left, or_from}
+use Rattle.std.proofs.lemmas.List.{length_push, map_push, length-map, length-take, length-replicate, get_or-replicate, take-take}
 use Rattle.std.proofs.lemmas.List.Elements.{All-cons, All-head, All-nil, All-tail, All-push}
 use Rattle.std.proofs.lemmas.List.Folds.{list_any-append}
-use Rattle.std.proofs.lemmas.Option.{none-some, same_Some, slice_get-map, slice_get_within, slice_get-get_or, get_or_from_slice_get}
-use Rattle.pl_base.specs.Answers.{◌>>=◌, because, unless, unless_found, Answers, AnswersAs}
+use Rattle.std.proofs.lemmas.Option.{slice_get-map, slice_get_within, slice_get-get_or, get_or_from_slice_get}
+use Rattle.pl_base.specs.Answers.{◌>>=◌, because, unless_found, AnswersAs}
 use Rattle.pl_base.specs.Each.{run}
-use Rattle.pl_base.proofs.FindLaws.{any_map}
 use Rattle.pl_elf.specs.Kinds.{is_library, is_program}
 use Rattle.pl_elf.specs.declared.kind.Kind.{Kind}
 use Rattle.pl_elf.specs.declared.kind.Kind.TheVariants.{Library, Program, Static}
 use Rattle.pl_object.specs.declared.object.Object.{Object}
 use Rattle.pl_scope.specs.Walk as scope
-use Rattle.pl_scope.specs.Walk.{needed_program, program_name, next}
-use Rattle.pl_scope.specs.Walking.{Walking, wants}
+use Rattle.pl_scope.specs.Walk.{next}
+use Rattle.pl_scope.specs.Walking.{Walking}
 use Rattle.pl_scope.specs.declared.fault.WalkFault.{WalkFault}
 use Rattle.pl_scope.specs.declared.fault.WalkFault.TheVariants as faults
 use Rattle.pl_scope.proofs.NameLaws.{same_name, eq_refl}

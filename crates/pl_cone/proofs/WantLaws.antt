@@ -1,10 +1,10 @@
 -- What the libraries of a table want, by rows and by names, and where they go.
 use Rattle.std.proofs.Common.{◌≡◌, ℕ, zero, suc, ◌+◌, ◌<◌, Bool, true, false, cond, List, [], ◌∷◌, length, map, take, Option, Some, None, Result, Ok, Err, refl, sym, ap, subst, ◌∙◌, arith, inl, inr}
-use Rattle.std.specs.Prelude.{IfSome, filter, find, nat_lt, position, slice_get, if◌then◌else◌}
-use Rattle.std.specs.List.{All, AllByRecursion, IsDistinct, cons_option, filter_map, position_or_len, range_with_len}
+use Rattle.std.specs.Prelude.{IfSome, nat_lt, position, slice_get, if◌then◌else◌}
+use Rattle.std.specs.List.{All, AllByRecursion, IsDistinct, cons_option, filter_map, range_with_len}
 use Rattle.std.specs.Option.{option_map}
 use Rattle.std.specs.Str.{bytes_eq}
-use Rattle.std.proofs.lemmas.Bool.{cases_Bool, ltb-true, ltb-false}
+use Rattle.std.proofs.lemmas.Bool.{cases_Bool}
 use Rattle.std.proofs.lemmas.Bool.Decides.{nat_tests}
 use Rattle.std.proofs.lemmas.List.{length-take}
 use Rattle.std.proofs.lemmas.Simd.{map-map}
@@ -27,11 +27,11 @@ use Rattle.pl_share.specs.Shared.{plan_shared}
 use Rattle.pl_slots.specs.Plan.{plan}
 use Rattle.pl_slots.specs.declared.slot.Slot.{Slot}
 use Rattle.pl_slots.specs.declared.slot.Want.{Want}
-use Rattle.law_sound.specs.Rule.{Files, members, names_of, objects}
+use Rattle.law_sound.specs.Rule.{members, names_of, objects}
 use Rattle.pl_cone.specs.Faulted.{of_plan}
 use Rattle.pl_cone.specs.Needs.{object_for}
 use Rattle.pl_cone.specs.Plans as plans
-use Rattle.pl_cone.specs.Plans.{position_of, slot_of, start_of, want_of}
+use Rattle.pl_cone.specs.Plans.{position_of, slot_of, want_of}
 use Rattle.pl_cone.specs.Skipped.{skip_causes}
 use Rattle.pl_cone.specs.Slots.{HaveWantedNames, count_before, is_there, joined, object_told, position_at, position_if, positions, positions_in, table_slots, start_at, table_walks, want_at, want_in, table_wants}
 use Rattle.pl_cone.specs.Table.{IsRunTable, is_candidate_row, names_by, rows_in, walk_of, walked_by}

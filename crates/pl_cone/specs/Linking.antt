@@ -1,5 +1,5 @@
 -- What the relocations of the files of a folder find, and why some may not be prelinked, row by row.
-use Rattle.std.specs.Prelude.{◌≡◌, ◌<◌, ℕ, Bool, true, false, ◌||◌, ◌&&◌, not, nat_lt, List, [], ◌∷◌, length, slice_get, slice_set, Option, Some, None, Result, Ok, Err}
+use Rattle.std.specs.Prelude.{◌≡◌, ◌<◌, ℕ, Bool, true, false, ◌||◌, ◌&&◌, nat_lt, List, [], ◌∷◌, length, slice_get, slice_set, Option, Some, None, Result, Ok, Err}
 use Rattle.pl_base.specs.Answers.{Answers, unless_found}
 use Rattle.pl_cone.specs.Candidates as candidates
 use Rattle.pl_cone.specs.Links.{IsLinkOf}

@@ -6,8 +6,7 @@ use Rattle.std.specs.BTreeMap.{BTreeMap, get_by}
 use Rattle.std.specs.Cmp.Lexicographic.{slice_cmp}
 use Rattle.std.specs.List.{All, list_any}
 use Rattle.std.specs.Ordering.{nat_cmp}
-use Rattle.pl_base.specs.Answers.{◌>>=◌, Answers, because}
-use Rattle.pl_base.specs.Each.{run}
+use Rattle.pl_base.specs.Answers.{◌>>=◌, because}
 use Rattle.pl_cone.specs.Skips.{skip_is_memory, of_walk}
 use Rattle.pl_cone.specs.Taken.{WereTaken, object_by, object_of}
 use Rattle.pl_cone.specs.declared.needs.Needs.{Needs}

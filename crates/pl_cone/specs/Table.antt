@@ -1,5 +1,5 @@
 -- The table of a run: a row for each file, and what its columns tell.
-use Rattle.std.specs.Prelude.{◌≡◌, ◌<◌, ◌≤◌, ℕ, Bool, true, false, not, List, [], ◌∷◌, ◌++◌, ◌+◌, map, if◌then◌else◌, length, replicate, slice_get, slice_set, Option, Some, None, is_some, Result, Ok, Err, find}
+use Rattle.std.specs.Prelude.{◌≡◌, ◌<◌, ◌≤◌, ℕ, Bool, false, not, List, [], ◌∷◌, ◌++◌, ◌+◌, map, if◌then◌else◌, length, replicate, slice_get, slice_set, Option, Some, None, is_some, Result, Ok, Err, find}
 use Rattle.std.specs.List.{All, filter_map, range_with_len}
 use Rattle.std.specs.Option.{option_and_then, option_map}
 use Rattle.std.specs.Str.{bytes_eq}

@@ -1,5 +1,5 @@
 -- The rows of a folder's files that have walks, and those of a table that may be prelinked (System V gABI chapter 5, "Shared Object Dependencies").
-use Rattle.std.specs.Prelude.{◌≡◌, ℕ, List, ◌∷◌, map, slice_get, Option, Some, None, Ok}
+use Rattle.std.specs.Prelude.{◌≡◌, ℕ, List, ◌∷◌, map, slice_get, Some, None, Ok}
 use Rattle.pl_elf.specs.declared.kind.Kind.TheVariants.{Library}
 use Rattle.pl_object.specs.declared.object.Object.{Object}
 use Rattle.pl_object.specs.declared.reloc.Reloc.{Reloc}

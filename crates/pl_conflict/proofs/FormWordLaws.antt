@@ -1,6 +1,6 @@
 -- The words that a library's form holds at the places of its relocations.
-use Rattle.std.proofs.Common.{◌≡◌, ℕ, zero, suc, ◌+◌, ◌-◌, ◌<◌, ◌≤◌, Bool, true, false, List, [], ◌∷◌, ◌++◌, length, map, get_or, take, drop, replicate, Option, Some, None, refl, sym, ap, subst, ◌∙◌, zero-add, arith, inl, inr}
-use Rattle.std.specs.Prelude.{◌==◌, not, slice_index}
+use Rattle.std.proofs.Common.{◌≡◌, ℕ, zero, suc, ◌+◌, ◌-◌, ◌<◌, ◌≤◌, true, false, List, [], ◌∷◌, ◌++◌, length, get_or, take, drop, Option, Some, None, refl, sym, ap, subst, ◌∙◌, arith, inl, inr}
+use Rattle.std.specs.Prelude.{◌==◌, not}
 use Rattle.std.specs.List.{All, AllZip, list_any}
 use Rattle.std.specs.Option.{unwrap_or}
 use Rattle.std.proofs.lemmas.Bool.{cases_Bool, eqb-true, true≢false}
@@ -15,7 +15,7 @@ use Rattle.pl_base.proofs.MemoryLaws.{layered_is, read_byte, read_length, within
 use Rattle.pl_base.proofs.WindowLaws.{length-part, part_byte}
 use Rattle.pl_base.proofs.WordLaws.{length_bytes64}
 use Rattle.pl_elf.specs.Clauses.{AreLoads}
-use Rattle.pl_elf.specs.Headers.{header, is_load, loads}
+use Rattle.pl_elf.specs.Headers.{is_load, loads}
 use Rattle.pl_elf.specs.declared.segment.Segment.{Segment}
 use Rattle.pl_form.specs.Faults.{IsFirm}
 use Rattle.pl_form.specs.Library.{IsFirmLibrary, library_with}
@@ -40,9 +40,9 @@ use Rattle.pl_form.specs.declared.parts.Spot.{Spot}
 use Rattle.pl_form.proofs.PlaceByteLaws.{spot_byte}
 use Rattle.pl_form.proofs.StandLaws.{parts_found}
 use Rattle.pl_value.proofs.LoneLaws.{none_at}
-use Rattle.pl_value.proofs.PlaceLaws.{IsHeld, reloc_over, relocs_held}
+use Rattle.pl_value.proofs.PlaceLaws.{IsHeld, relocs_held}
 use Rattle.pl_conflict.specs.Conflicts.{held}
-use Rattle.pl_conflict.specs.Held.{FormsHoldWords, IsFormWith, IsHeldWord, held_at}
+use Rattle.pl_conflict.specs.Held.{FormsHoldWords, IsHeldWord, held_at}
 use Rattle.pl_conflict.proofs.StandLaws.{moved_pieces, own_pieces}
 
 -- ---- eight bytes of pieces

@@ -1,5 +1,5 @@
 -- Words that files hold, and the rows that are made by them.
-use Rattle.std.proofs.Common.{◌≡◌, ℕ, ◌+◌, ◌<◌, ◌^◌, Bool, cond, false, List, [], ◌∷◌, ◌++◌, length, take, get_or, Option, Some, None, sym, ap, subst, ◌∙◌, arith}
+use Rattle.std.proofs.Common.{◌≡◌, ℕ, ◌+◌, ◌<◌, ◌^◌, Bool, cond, false, List, [], ◌∷◌, ◌++◌, length, take, get_or, Some, None, sym, ap, subst, ◌∙◌, arith}
 use Rattle.std.specs.Prelude.{◌||◌, ◌==◌, slice_get}
 use Rattle.std.specs.List.{AllZip}
 use Rattle.std.specs.Str.{bytes_eq}
@@ -11,7 +11,6 @@ use Rattle.pl_base.specs.Memory.{layered}
 use Rattle.pl_base.proofs.MemoryLaws.{read_length}
 use Rattle.pl_base.proofs.WordLaws.{bytes64_word, word64_back}
 use Rattle.pl_image.specs.declared.loaded_object.LoadedObject.{LoadedObject}
-use Rattle.pl_lists.specs.declared.conflict_row.ConflictRow.{ConflictRow}
 use Rattle.pl_value.specs.declared.word.Word.TheVariants.{Put}
 use Rattle.pl_conflict.specs.Conflicts.{pieces_in, held, row_of}
 

@@ -37,7 +37,7 @@ use Rattle.pl_conflict.specs.Complete.{IsProgramScope, StandFor}
 use Rattle.pl_conflict.specs.Conflicts.{pieces_in, held, row_of, rows_of, ascending, conflicts}
 use Rattle.pl_conflict.specs.Fast as fast
 use Rattle.pl_conflict.specs.Prelinked as prelinked
-use Rattle.pl_conflict.specs.Prelinked.{Firm, objects_of, slots_of, originals_of, version_of, has_numbers, list_of, library_file, parts_of, is_program_place, flat_of}
+use Rattle.pl_conflict.specs.Prelinked.{Firm, objects_of, slots_of, originals_of, version_of, has_numbers, list_of, library_file, is_program_place}
 use Rattle.pl_conflict.specs.Standing.{standing_image}
 use Rattle.pl_conflict.proofs.CompleteLaws.{library_same, conflicts_complete}
 use Rattle.pl_conflict.proofs.GivenLaws.{own_meanings, given_sizes}

@@ -1,5 +1,5 @@
 -- Relocations that matter nowhere, and words that a library's file holds.
-use Rattle.std.specs.Prelude.{◌≡◌, ℕ, List, Option, None, Ok}
+use Rattle.std.specs.Prelude.{◌≡◌, ℕ, List, None, Ok}
 use Rattle.pl_base.specs.Bytes.{bytes64}
 use Rattle.pl_base.specs.Memory.{Memory}
 use Rattle.pl_image.specs.declared.loaded_object.LoadedObject.{LoadedObject}

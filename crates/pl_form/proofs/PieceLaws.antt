@@ -23,7 +23,7 @@ use Rattle.pl_object.specs.declared.object.Object.{Object}
 use Rattle.pl_object.specs.declared.reloc.Reloc.{Reloc}
 use Rattle.pl_form.specs.Back.{wanted}
 use Rattle.pl_form.specs.Forms as forms
-use Rattle.pl_form.specs.Forms.{original_of, undo_part, planned}
+use Rattle.pl_form.specs.Forms.{original_of}
 use Rattle.pl_form.specs.Found.{ss_of, secs_of, tags_of, places_of, ps_of}
 use Rattle.pl_form.specs.PartLaws.{IsFoundIn, IsFree, IsUnder, IsAsLong, FormsLibrary, FormsProgram, segment_of, stands_at, original_at}
 use Rattle.pl_form.specs.Loads.{stands, pieces_of, fills}

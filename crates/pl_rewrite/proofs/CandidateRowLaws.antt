@@ -1,20 +1,20 @@
 -- The rows of names that may be prelinked: their walks, and the members that these are.
-use Rattle.std.proofs.Common.{◌≡◌, ℕ, zero, suc, ◌+◌, ◌<◌, ◌≤◌, Bool, true, false, List, [], ◌∷◌, length, map, Option, Some, None, Result, Ok, Err, refl, sym, ap, subst, ◌∙◌, arith}
-use Rattle.std.specs.Prelude.{not, is_some, slice_get}
-use Rattle.std.specs.List.{All, AllZip, IsDistinct}
+use Rattle.std.proofs.Common.{◌≡◌, ℕ, zero, suc, ◌+◌, ◌<◌, ◌≤◌, true, List, [], ◌∷◌, length, map, Option, Some, Result, Ok, Err, refl, sym, ap, subst, ◌∙◌, arith}
+use Rattle.std.specs.Prelude.{slice_get}
+use Rattle.std.specs.List.{AllZip, IsDistinct}
 use Rattle.std.specs.Option.{option_map}
 use Rattle.std.specs.Result.{is_ok}
 use Rattle.std.specs.Str.{bytes_eq}
 use Rattle.std.proofs.lemmas.List.{length-map}
-use Rattle.std.proofs.lemmas.Option.{none-some, same_Some, slice_get-map}
+use Rattle.std.proofs.lemmas.Option.{same_Some, slice_get-map}
 use Rattle.std.proofs.lemmas.Slice.Zip.{AllZip-long}
 use Rattle.pl_base.specs.Bytes.{IsBytes}
 use Rattle.pl_cone.specs.Plans as plans
 use Rattle.pl_cone.specs.Skipped.{skip_causes, skip_of}
 use Rattle.pl_cone.specs.Skips.{of_walk}
 use Rattle.pl_cone.specs.Table.{AreRows, IsLinkBy, IsPlan, IsRunTable, has_no_cause, is_candidate_row, walked_by}
-use Rattle.pl_cone.specs.Taken.{files_in, object_by}
-use Rattle.pl_cone.specs.WalkRows.{HasOwnWalk, IsCandidateRow}
+use Rattle.pl_cone.specs.Taken.{files_in}
+use Rattle.pl_cone.specs.WalkRows.{IsCandidateRow}
 use Rattle.pl_cone.specs.declared.asked.Asked.{Asked}
 use Rattle.pl_cone.specs.declared.link.Link.{Link}
 use Rattle.pl_cone.specs.declared.plan.RowPlan.{RowPlan}
@@ -31,11 +31,8 @@ use Rattle.pl_conflict.specs.Prelinked.{Firm, firm_of}
 use Rattle.pl_form.specs.Files.{original_in}
 use Rattle.pl_object.specs.declared.object.Object.{Object}
 use Rattle.pl_scope.specs.Members.{names}
-use Rattle.pl_scope.specs.Walk.{Walked}
-use Rattle.pl_scope.specs.declared.constants.TheConstants.{MAX_MEMBERS}
 use Rattle.pl_scope.proofs.WalkedLaws.{limit_is, walk_distinct}
 use Rattle.law_sound.specs.Rule as sound
-use Rattle.law_sound.specs.Rule.{original_at}
 use Rattle.pl_rewrite.specs.Rows.{IsFirmAt, IsNumbered, IsWalkRow, firm_by, firms_of, walk_of}
 use Rattle.pl_rewrite.specs.RowWords.{IsLinkAt}
 use Rattle.pl_rewrite.specs.Sources.{AreSources, member_names}

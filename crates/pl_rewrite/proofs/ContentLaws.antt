@@ -1,32 +1,29 @@
 -- The fills that are made of a program are those of its file.
-use Rattle.std.proofs.Common.{◌≡◌, ℕ, zero, suc, ◌+◌, ◌-◌, ◌^◌, ◌<◌, ◌≤◌, Bool, true, List, [], ◌∷◌, ◌++◌, length, map, get_or, Option, Some, Result, Ok, refl, sym, ap, subst, ◌∙◌, arith}
+use Rattle.std.proofs.Common.{◌≡◌, ℕ, zero, suc, ◌+◌, ◌-◌, ◌^◌, ◌<◌, ◌≤◌, Bool, true, List, [], ◌∷◌, ◌++◌, length, map, get_or, Some, Ok, refl, sym, ap, subst, ◌∙◌, arith}
 use Rattle.std.specs.Prelude.{slice_get}
-use Rattle.std.specs.List.{All, AllZip, list_any}
+use Rattle.std.specs.List.{AllZip}
 use Rattle.std.proofs.lemmas.List.{get_or-map, get_or_append_left, length-append, length-map}
 use Rattle.pl_base.specs.Each.{each}
-use Rattle.pl_base.specs.Memory.{Memory, is_within, lies, read}
+use Rattle.pl_base.specs.Memory.{is_within, read}
 use Rattle.pl_base.specs.Sums.{plus}
 use Rattle.pl_base.proofs.AnswerLaws.{ok_same}
 use Rattle.pl_base.proofs.EachLaws.{length-each}
 use Rattle.pl_conflict.specs.Prelinked.{Firm, objects_of, originals_of, slots_of}
-use Rattle.pl_form.specs.Words.{has_place}
 use Rattle.pl_form.specs.declared.file.Fill.{Fill}
-use Rattle.pl_image.specs.Loads.{IsPlaced, pieces_at}
+use Rattle.pl_image.specs.Loads.{pieces_at}
 use Rattle.pl_object.specs.Reads.{reads}
 use Rattle.pl_object.specs.declared.object.Object.{Object}
 use Rattle.pl_object.specs.declared.reloc.Reloc.{Reloc}
 use Rattle.pl_tls.specs.declared.module.Module.{Module}
-use Rattle.pl_value.specs.Linked.{under}
 use Rattle.pl_value.specs.Meanings.{Row, meaning, meanings, row, rows, rows_from}
 use Rattle.pl_value.specs.Ordinary.{part_of}
 use Rattle.pl_value.specs.Targets.{base_of}
-use Rattle.pl_value.specs.declared.fault.LinkFault.{LinkFault}
 use Rattle.pl_value.specs.declared.meaning.Meaning.{Meaning}
 use Rattle.pl_value.specs.declared.word.Word.{Word}
 use Rattle.pl_value.specs.declared.word.Word.TheVariants.{Copy}
 use Rattle.pl_value.proofs.MeaningLaws.{IsGiven, each_zip, meaning_given}
 use Rattle.pl_value.proofs.PlaceLaws.{IsHeld, relocs_held}
-use Rattle.pl_rewrite.specs.Copies.{AreProgramFills, AreFillsOf, FillsBy}
+use Rattle.pl_rewrite.specs.Copies.{AreProgramFills, AreFillsOf}
 use Rattle.pl_rewrite.specs.Fills.{fills, memory_of}
 use Rattle.pl_rewrite.specs.declared.copies.Filling.{Filling}
 use Rattle.pl_rewrite.proofs.CopyLaws.{gives_at}

@@ -1,6 +1,5 @@
 -- The conflict rows that are made of a program are those of its file.
-use Rattle.std.proofs.Common.{◌≡◌, ℕ, List, Option, Some, None, Result, Ok, Err, refl, sym, ap, subst, ◌∙◌}
-use Rattle.pl_base.specs.Answers.{because}
+use Rattle.std.proofs.Common.{◌≡◌, ℕ, List, Some, None, Result, sym, ap, subst, ◌∙◌}
 use Rattle.pl_cone.specs.Links.{objects_of}
 use Rattle.pl_cone.specs.declared.values.WalkLinking.{WalkLinking}
 use Rattle.pl_conflict.specs.Compared.{AreCompared}
@@ -12,9 +11,7 @@ use Rattle.pl_object.specs.declared.object.Object.{Object}
 use Rattle.pl_value.specs.Meanings.{meanings}
 use Rattle.pl_value.specs.Ordinary.{loaded_objects}
 use Rattle.pl_value.specs.declared.fault.LinkFault.{LinkFault}
-use Rattle.pl_value.specs.declared.fault.OrdinaryFault.{OrdinaryFault}
 use Rattle.pl_value.specs.declared.fault.OrdinaryFault.TheVariants as faults
-use Rattle.pl_value.specs.declared.meaning.Meaning.{Meaning}
 use Rattle.pl_rewrite.specs.Fills.{conflicts_with, result_ok}
 use Rattle.pl_rewrite.specs.RemainingRows.{AreAllTold, AreConflictRows, RefusesAll}
 use Rattle.pl_rewrite.specs.declared.row_words.RowWords.{RowWords}

@@ -1,10 +1,9 @@
 -- What stands at the places of a program: words, copies, and what its original has.
-use Rattle.std.proofs.Common.{◌≡◌, ℕ, zero, suc, ◌+◌, ◌-◌, ◌<◌, ◌≤◌, Bool, true, false, List, [], ◌∷◌, ◌++◌, length, map, get_or, take, drop, Option, Some, None, refl, sym, ap, subst, ◌∙◌, arith, inl, inr}
+use Rattle.std.proofs.Common.{◌≡◌, ℕ, ◌+◌, ◌-◌, ◌<◌, ◌≤◌, Bool, true, false, List, [], ◌∷◌, ◌++◌, length, get_or, Option, Some, None, refl, sym, ap, ◌∙◌, arith, inl, inr}
 use Rattle.std.specs.Prelude.{◌⊎◌, filter}
-use Rattle.std.specs.List.{All, cons_option, filter_map, list_any}
-use Rattle.std.specs.List.Sorted.{IsPermutation}
+use Rattle.std.specs.List.{cons_option, filter_map}
 use Rattle.std.specs.Option.{IfSome, unwrap_or}
-use Rattle.std.proofs.lemmas.Bool.{cases_Bool, cases_lt, false≢true}
+use Rattle.std.proofs.lemmas.Bool.{cases_Bool, false≢true}
 use Rattle.std.proofs.lemmas.Grind.{same_number_lists}
 use Rattle.std.proofs.lemmas.List.Sorted.{IsPermutation-refl}
 use Rattle.pl_base.specs.Bytes.{bytes64}
@@ -12,11 +11,10 @@ use Rattle.pl_base.specs.Memory.{AtMostOne, Fill, Memory, fill_byte, covers, fil
 use Rattle.pl_base.proofs.MemoryLaws.{filled_same, is_some_and, read_byte, read_length, within_is, within_not, within_true}
 use Rattle.pl_base.proofs.WordLaws.{length_bytes64}
 use Rattle.pl_conflict.specs.Fast.{is_library}
-use Rattle.pl_conflict.proofs.FastLaws.{byte_in, copies_inside, laid_at, make_copy, make_word, relocated_put, words_inside}
+use Rattle.pl_conflict.proofs.FastLaws.{copies_inside, laid_at, make_copy, make_word, relocated_put, words_inside}
 use Rattle.pl_value.specs.Laws.{AllFit}
-use Rattle.pl_value.specs.Linked.{copies, copy_of, put_of, relocated, under, worded, words}
+use Rattle.pl_value.specs.Linked.{copies, relocated, under, worded, words}
 use Rattle.pl_value.specs.declared.meaning.Meaning.{Meaning}
-use Rattle.pl_value.specs.declared.word.Word.{Word}
 use Rattle.pl_value.specs.declared.word.Word.TheVariants.{Put, Copy, Nothing}
 
 -- ---- words that are left out

@@ -1,16 +1,13 @@
 -- A program's file bears the conflict rows that were made.
 use Rattle.std.proofs.Common.{◌≡◌, ℕ, ◌≤◌, true, false, List, ◌∷◌, length, map, Some, Result, Ok, refl, sym, ap, subst, ◌∙◌}
-use Rattle.std.proofs.lemmas.Option.{same_Some}
 use Rattle.pl_base.proofs.AnswerLaws.{ok_same}
 use Rattle.pl_conflict.specs.Conflicts.{conflicts}
 use Rattle.pl_conflict.specs.Prelinked.{Firm, are_set, objects_of, parts_of, program_file, slots_of, stored}
-use Rattle.pl_conflict.proofs.MadeLaws.{IsProgramOf, program_is_form, program_made, program_of, stored_some}
+use Rattle.pl_conflict.proofs.MadeLaws.{program_is_form, program_made, program_of, stored_some}
 use Rattle.pl_conflict.proofs.MemberLaws.{set_is}
 use Rattle.pl_elf.specs.Kinds.{is_library}
 use Rattle.pl_form.specs.Files.{marked_in}
 use Rattle.pl_form.specs.Marks.{IsFormOf}
-use Rattle.pl_form.specs.declared.constants.TheConstants.{STORED}
-use Rattle.pl_form.specs.declared.file.Marked.{Marked}
 use Rattle.pl_form.proofs.BytesLaws.{forms_are_bytes}
 use Rattle.pl_form.proofs.FilesLaws.{forms_are_read}
 use Rattle.pl_lists.specs.declared.conflict_row.ConflictRow.{ConflictRow}

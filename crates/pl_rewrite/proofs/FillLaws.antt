@@ -1,26 +1,21 @@
 -- The bytes at the places of a program: those that its scope makes there.
-use Rattle.std.proofs.Common.{◌≡◌, ℕ, ◌+◌, ◌<◌, true, false, List, [], ◌∷◌, ◌++◌, length, map, take, get_or, refl, sym, ap, ◌∙◌, zero-add, arith, inl, inr}
+use Rattle.std.proofs.Common.{◌≡◌, ℕ, ◌+◌, ◌<◌, true, false, List, [], ◌∷◌, ◌++◌, length, map, refl, sym, ap, ◌∙◌, zero-add, arith, inl, inr}
 use Rattle.std.specs.Prelude.{◌==◌, filter}
 use Rattle.std.specs.List.{All, AllZip, concat}
 use Rattle.std.proofs.lemmas.Bool.{cases_Bool, cases_lt, not-false}
-use Rattle.std.proofs.lemmas.List.{take_more}
 use Rattle.std.proofs.lemmas.List.Elements.{All-head, All-tail}
-use Rattle.pl_base.specs.Memory.{Memory, Piece, filled, is_within, layered, read}
+use Rattle.pl_base.specs.Memory.{Memory, Piece, is_within, read}
 use Rattle.pl_base.specs.Sums.{plus}
 use Rattle.pl_base.specs.Windows.{Window}
-use Rattle.pl_base.proofs.MemoryLaws.{filled-append, read_length, within_is}
+use Rattle.pl_base.proofs.MemoryLaws.{read_length, within_is}
 use Rattle.pl_conflict.proofs.GivenLaws.{IsOwnGiven}
 use Rattle.pl_elf.specs.declared.constants.TheConstants.{R_X86_64_NONE}
 use Rattle.pl_form.specs.Words.{AreFills, flat_of, has_place, fill_window}
-use Rattle.pl_form.specs.declared.file.Fill.{Fill}
-use Rattle.pl_image.specs.Image.{all_pieces}
-use Rattle.pl_image.specs.declared.loaded_object.LoadedObject.{LoadedObject}
 use Rattle.pl_object.specs.Relocations.{places, width}
 use Rattle.pl_object.specs.declared.object.Object.{Object}
 use Rattle.pl_object.specs.declared.reloc.Reloc.{Reloc}
 use Rattle.pl_sym.specs.declared.symbol.Symbol.{Symbol}
 use Rattle.pl_tls.specs.declared.module.Module.{Module}
-use Rattle.pl_value.specs.Linked.{words, copies, worded, written, relocated}
 use Rattle.pl_value.specs.Targets.{base_of}
 use Rattle.pl_value.specs.declared.meaning.Meaning.{Meaning}
 use Rattle.pl_value.proofs.PlaceLaws.{IsHeld}

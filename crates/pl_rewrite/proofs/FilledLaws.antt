@@ -1,13 +1,13 @@
 -- The fills that are made are those of a program's file.
-use Rattle.std.proofs.Common.{◌≡◌, ℕ, Bool, true, false, List, [], ◌∷◌, ◌++◌, length, map, refl, sym, ap, subst, ◌∙◌, arith, inl, inr}
-use Rattle.std.specs.Prelude.{filter, if◌then◌else◌}
+use Rattle.std.proofs.Common.{◌≡◌, ℕ, true, false, List, [], ◌∷◌, ◌++◌, refl, sym, ap, subst, ◌∙◌, inl, inr}
+use Rattle.std.specs.Prelude.{if◌then◌else◌}
 use Rattle.std.specs.List.{AllZip}
 use Rattle.std.proofs.lemmas.Bool.{cases_Bool}
 use Rattle.pl_base.specs.Memory.{Memory, read}
 use Rattle.pl_form.specs.Words.{has_place}
 use Rattle.pl_form.specs.declared.file.Fill.{Fill}
 use Rattle.pl_object.specs.declared.reloc.Reloc.{Reloc}
-use Rattle.pl_rewrite.specs.Copies.{FillsBy, IsFill, place_of, given_places}
+use Rattle.pl_rewrite.specs.Copies.{FillsBy, IsFill, given_places}
 use Rattle.pl_rewrite.specs.Fills.{fill_at, fills}
 use Rattle.pl_rewrite.specs.declared.copies.Filling.{Filling}
 use Rattle.pl_value.specs.declared.meaning.Meaning.{Meaning}

@@ -1,5 +1,5 @@
 -- What is made of all files by their outcomes is what a run makes of them.
-use Rattle.std.proofs.Common.{◌≡◌, ℕ, false, List, [], ◌∷◌, ◌++◌, Ok, refl, sym, ap, subst, ◌∙◌, append_assoc}
+use Rattle.std.proofs.Common.{◌≡◌, ℕ, List, [], ◌∷◌, ◌++◌, Ok, refl, sym, ap, subst, ◌∙◌, append_assoc}
 use Rattle.std.specs.Prelude.{if◌then◌else◌}
 use Rattle.std.specs.List.{All, AllZip}
 use Rattle.std.proofs.lemmas.List.{append-nil}
@@ -15,7 +15,7 @@ use Rattle.pl_elf.specs.declared.range.Range.{Range}
 use Rattle.pl_slots.specs.declared.slot.Slot.{Slot}
 use Rattle.law_sound.specs.Rule.{Files}
 use Rattle.pl_rewrite.specs.Outcomes as outcomes
-use Rattle.pl_rewrite.specs.Outcomes.{AreOutcomes, IsOutcome, MayBe, made_by, made_from, made_in, planned_of, with_made}
+use Rattle.pl_rewrite.specs.Outcomes.{AreOutcomes, IsOutcome, MayBe, made_from, planned_of, with_made}
 use Rattle.pl_rewrite.specs.Rewriting.{AreDecided, rewritten, run_made}
 use Rattle.pl_rewrite.specs.declared.finishing.MadeFiles.{MadeFiles}
 use Rattle.pl_rewrite.specs.declared.finishing.Made.{Made}

@@ -1,20 +1,17 @@
 -- Members that have forms, and the slices that patterns take.
-use Rattle.std.proofs.Common.{◌≡◌, ◌-◌, ◌<◌, ◌≤◌, Bool, true, List, [], ◌∷◌, length, take, drop, get_or, Option, Some, refl, sym, ap, ◌∙◌, arith}
+use Rattle.std.proofs.Common.{◌≡◌, ◌-◌, ◌<◌, ◌≤◌, Bool, true, List, [], ◌∷◌, get_or, Option, Some, refl, ap, ◌∙◌}
 use Rattle.std.specs.List.{All, list_all}
 use Rattle.std.proofs.lemmas.Bool.{and_from, and_parts}
-use Rattle.std.proofs.lemmas.List.{length-map, take_all}
 use Rattle.std.proofs.lemmas.List.Elements.{All-nil, All-cons, All-head, All-tail, All-map}
 use Rattle.pl_conflict.specs.Format.{number_of}
-use Rattle.pl_conflict.specs.Prelinked.{Firm, firm_of, joined, all_firm, objects_of, originals_of, parts_of, part_of, slots_of, walked_of, version_of, is_version}
+use Rattle.pl_conflict.specs.Prelinked.{Firm, firm_of, joined, all_firm, objects_of, version_of, is_version}
 use Rattle.pl_conflict.proofs.MemberLaws.{member_firm, HasOwn}
 use Rattle.pl_form.proofs.AlignLaws.{align_some}
 use Rattle.pl_form.specs.declared.version.Version.{Version}
 use Rattle.pl_form.specs.declared.version.Version.TheVariants.{One, Two}
 use Rattle.pl_object.proofs.AcceptedLaws.{accepted}
 use Rattle.pl_rewrite.specs.Sources.{AreSources, members}
-use Rattle.pl_object.specs.declared.object.Object.{Object}
 use Rattle.pl_scope.specs.Scope.{IsAccepted}
-use Rattle.pl_scope.specs.Scope as scopes
 
 -- ---- tests of all
 

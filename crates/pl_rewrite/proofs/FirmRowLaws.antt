@@ -1,20 +1,17 @@
 -- The members of a row's walk, one row after the other.
-use Rattle.std.proofs.Common.{◌≡◌, ℕ, zero, suc, ◌+◌, ◌<◌, ◌≤◌, Bool, true, false, List, [], ◌∷◌, ◌++◌, length, map, drop, get_or, Option, Some, None, refl, sym, ap, subst, ◌∙◌, arith, inl, inr}
+use Rattle.std.proofs.Common.{◌≡◌, ℕ, zero, suc, ◌+◌, ◌<◌, ◌≤◌, Bool, List, [], ◌∷◌, ◌++◌, length, map, Option, Some, None, refl, sym, ap, subst, ◌∙◌, arith}
 use Rattle.std.specs.Prelude.{◌&&◌, slice_get}
-use Rattle.std.specs.List.{All, AllZip, cons_option, filter_map, flat_map, list_all}
+use Rattle.std.specs.List.{AllZip, cons_option, filter_map, flat_map, list_all}
 use Rattle.std.specs.Option.{option_map}
-use Rattle.std.proofs.lemmas.List.Elements.{All-head, All-tail}
 use Rattle.std.proofs.lemmas.Option.{none-some, same_Some}
 use Rattle.pl_base.specs.Windows.{Window}
 use Rattle.pl_cone.specs.Table.{AreRows, member_of, walked_by}
 use Rattle.pl_cone.specs.Taken.{object_by}
 use Rattle.pl_cone.specs.declared.taken.Taken.{Taken}
-use Rattle.pl_conflict.specs.Prelinked as firm
 use Rattle.pl_conflict.specs.Prelinked.{Firm, objects_of, slots_of}
 use Rattle.pl_object.specs.declared.object.Object.{Object}
 use Rattle.pl_scope.specs.Scope.{objects}
-use Rattle.pl_scope.specs.Walk.{Walked}
-use Rattle.pl_rewrite.specs.Rows.{IsFirmAt, IsNumbered, firm_at, firm_by, firm_in, firms_of, number_at, places_of, walk_of}
+use Rattle.pl_rewrite.specs.Rows.{IsFirmAt, firm_by, firm_in, firms_of, number_at, places_of, walk_of}
 use Rattle.pl_rewrite.specs.declared.numbers.Numbered.{Numbered}
 
 -- ---- lists of which nothing is left out

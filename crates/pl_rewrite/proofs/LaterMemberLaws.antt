@@ -1,10 +1,9 @@
 -- The members of a walk after the first, by their rows: they are libraries.
-use Rattle.std.proofs.Common.{◌≡◌, ℕ, zero, suc, ◌<◌, Bool, true, false, List, [], ◌∷◌, length, Option, Some, None, Result, Ok, Err, refl, sym, ap, subst, ◌∙◌, arith, inl, inr}
+use Rattle.std.proofs.Common.{◌≡◌, ℕ, suc, ◌<◌, true, false, List, [], ◌∷◌, Some, refl, sym, ap, subst, ◌∙◌, arith, inl, inr}
 use Rattle.std.specs.Prelude.{slice_get}
 use Rattle.std.specs.List.{All}
 use Rattle.std.proofs.lemmas.Bool.{true≢false}
-use Rattle.std.proofs.lemmas.Option.{none-some, same_Some}
-use Rattle.pl_cone.specs.Table.{walked_by}
+use Rattle.std.proofs.lemmas.Option.{same_Some}
 use Rattle.pl_cone.specs.Taken.{object_by}
 use Rattle.pl_cone.specs.WalkRows.{HasOwnWalk, IsLibraryOf}
 use Rattle.pl_cone.specs.declared.taken.Taken.{Taken}

@@ -1,14 +1,13 @@
 -- The memory of one member among all.
-use Rattle.std.proofs.Common.{◌≡◌, ℕ, zero, suc, ◌+◌, ◌<◌, Bool, true, false, List, [], ◌∷◌, ◌++◌, Option, Some, None, refl, sym, ap, subst, ◌∙◌, arith, inl, inr}
+use Rattle.std.proofs.Common.{◌≡◌, ℕ, zero, suc, ◌+◌, ◌<◌, Bool, true, false, List, [], ◌∷◌, ◌++◌, Some, refl, sym, ap, subst, ◌∙◌, arith, inl, inr}
 use Rattle.std.specs.Prelude.{◌||◌, slice_get}
 use Rattle.std.specs.List.{list_any}
 use Rattle.std.proofs.lemmas.Bool.{cases_Bool, false≢true, or_parts, or_right}
 use Rattle.std.proofs.lemmas.List.Folds.{list_any-append}
 use Rattle.std.proofs.lemmas.Option.{none-some, same_Some}
-use Rattle.pl_base.specs.Memory.{AtMostOne, Piece, byte_at, layered, lies}
+use Rattle.pl_base.specs.Memory.{AtMostOne, Piece, layered, lies}
 use Rattle.pl_image.specs.Image.{all_pieces}
 use Rattle.pl_image.specs.Loads.{pieces_at}
-use Rattle.pl_image.specs.declared.loaded_object.LoadedObject.{LoadedObject}
 use Rattle.pl_object.specs.declared.object.Object.{Object}
 use Rattle.pl_value.specs.Ordinary.{loaded_objects, loaded_from, part_of}
 use Rattle.pl_value.specs.Targets.{base_of}

@@ -1,18 +1,15 @@
 -- What the form of a library asks of its walk.
-use Rattle.std.proofs.Common.{◌≡◌, ℕ, ◌%◌, ◌<◌, true, false, List, [], ◌∷◌, length, Option, Some, None, refl, sym, ap, subst, ◌∙◌, arith}
+use Rattle.std.proofs.Common.{◌≡◌, ◌%◌, ◌<◌, true, List, [], ◌∷◌, length, refl, ◌∙◌, arith}
 use Rattle.std.proofs.lemmas.List.{length-map}
 use Rattle.std.proofs.lemmas.List.Elements.{All-head}
 use Rattle.pl_conflict.specs.Own.{own_word, own_words}
-use Rattle.pl_conflict.specs.Prelinked.{Firm, are_set, has_numbers, library_file, list_of, objects_of, slots_of}
+use Rattle.pl_conflict.specs.Prelinked.{Firm, has_numbers, library_file, list_of, objects_of, slots_of}
 use Rattle.pl_conflict.proofs.MemberLaws.{HasOwn, library_numbers}
-use Rattle.pl_form.specs.Library.{IsFirmLibrary, IsListing, library_form}
-use Rattle.pl_form.specs.declared.version.Version.{Version}
+use Rattle.pl_form.specs.Library.{IsFirmLibrary, IsListing}
 use Rattle.pl_form.proofs.AlignLaws.{align_even, slot_even}
-use Rattle.pl_lists.specs.declared.list_row.ListRow.{ListRow}
-use Rattle.pl_object.specs.declared.object.Object.{Object}
 use Rattle.pl_rewrite.specs.Forms.{HasFormWith, HasNumbers, IsLibraryWalk, file_with}
 use Rattle.pl_rewrite.specs.Sources.{AreSources, firm}
-use Rattle.pl_rewrite.proofs.FirmLaws.{own_all, version_back}
+use Rattle.pl_rewrite.proofs.FirmLaws.{own_all}
 use Rattle.pl_rewrite.proofs.ListLaws.{listing}
 
 pub first_library : (r : Firm) (rs : List Firm) → AreSources (r ∷ rs) → IsLibraryWalk (r ∷ rs) → IsFirmLibrary r.member.original r.object

@@ -1,5 +1,5 @@
 -- What is made of the rows of files, row by row.
-use Rattle.std.proofs.Common.{◌≡◌, ℕ, ◌+◌, ◌<◌, Bool, true, false, List, [], ◌∷◌, ◌++◌, length, get_or, Option, Some, None, refl, sym, ap, subst, ◌∙◌, arith}
+use Rattle.std.proofs.Common.{◌≡◌, ℕ, ◌+◌, ◌<◌, Bool, true, false, List, [], ◌∷◌, ◌++◌, length, Option, Some, None, refl, sym, ap, subst, ◌∙◌}
 use Rattle.std.specs.Prelude.{◌&&◌, not, slice_get}
 use Rattle.std.specs.Option.{option_or}
 use Rattle.std.proofs.lemmas.Option.{none-some, same_Some}
@@ -10,7 +10,7 @@ use Rattle.pl_form.specs.declared.version.Version.{Version}
 use Rattle.pl_form.specs.declared.version.Version.TheVariants.{Two}
 use Rattle.pl_rewrite.specs.Contents.{IsNewProgram}
 use Rattle.pl_rewrite.specs.Libraries.{IsNewIfAny}
-use Rattle.pl_rewrite.specs.Outcomes.{AreAll, AreMade, AreProgramsMade, IsIf, IsLibraryIf, IsMadeAt, IsOutcomeFor, IsProgramIf, IsTooLarge, is_library_at, is_stale, joined, too_large}
+use Rattle.pl_rewrite.specs.Outcomes.{AreAll, AreProgramsMade, IsIf, IsLibraryIf, IsMadeAt, IsOutcomeFor, IsProgramIf, IsTooLarge, is_library_at, is_stale, joined, too_large}
 use Rattle.pl_rewrite.specs.Rows.{IsFileMeant, IsWalkRow, firms_of, is_library_row}
 use Rattle.pl_rewrite.specs.declared.numbers.Numbered.{Numbered}
 use Rattle.pl_rewrite.specs.declared.outcome.NewLibrary.{NewLibrary}

@@ -1,6 +1,6 @@
 -- The prelinked file of a library of a program's walk is its form for its slot.
-use Rattle.std.proofs.Common.{◌≡◌, ℕ, zero, suc, ◌+◌, ◌*◌, ◌%◌, ◌<◌, ◌≤◌, Bool, true, false, List, [], ◌∷◌, ◌++◌, length, drop, get_or, Option, Some, None, refl, sym, ap, subst, ◌∙◌, arith}
-use Rattle.std.specs.Prelude.{◌&&◌, ◌||◌, ◌==◌, not, slice_get}
+use Rattle.std.proofs.Common.{◌≡◌, ℕ, zero, suc, ◌+◌, ◌*◌, ◌%◌, ◌<◌, ◌≤◌, Bool, true, false, List, [], ◌∷◌, ◌++◌, length, drop, get_or, refl, sym, ap, subst, ◌∙◌, arith}
+use Rattle.std.specs.Prelude.{◌&&◌, ◌||◌, ◌==◌}
 use Rattle.std.specs.List.{All, list_all, list_any}
 use Rattle.std.proofs.lemmas.Bool.{and_from, false≢true, or_parts}
 use Rattle.std.proofs.lemmas.List.{length-append, length-map}
@@ -8,7 +8,7 @@ use Rattle.std.proofs.lemmas.List.Elements.{All-cons, All-tail}
 use Rattle.std.proofs.lemmas.Option.{same_Some}
 use Rattle.pl_base.proofs.WordLaws.{length_bytes32}
 use Rattle.pl_cone.specs.Folder.{IsWithin}
-use Rattle.pl_cone.specs.Table.{rows_in, walked_by}
+use Rattle.pl_cone.specs.Table.{walked_by}
 use Rattle.pl_conflict.specs.Held.{IsFormWith}
 use Rattle.pl_conflict.specs.Own.{own_words}
 use Rattle.pl_conflict.specs.Prelinked.{Firm, are_set, has_numbers, library_file, list_of, list_row, objects_of, slots_of, version_of}
@@ -16,12 +16,11 @@ use Rattle.pl_conflict.proofs.MemberLaws.{HasOwn, IsPlacedLibrary, IsSet, librar
 use Rattle.pl_conflict.proofs.SetLaws.{HasLibrary, library_shared}
 use Rattle.pl_elf.specs.Kinds.{is_library}
 use Rattle.pl_elf.specs.declared.constants.TheConstants.{R_X86_64_COPY}
-use Rattle.pl_form.specs.Library.{IsEven, IsFirmLibrary, IsListing, IsShortList}
+use Rattle.pl_form.specs.Library.{IsListing, IsShortList}
 use Rattle.pl_form.specs.Words.{listed}
 use Rattle.pl_image.specs.Loads.{IsPlaced}
 use Rattle.pl_lists.specs.Lists.{after, list_bytes, row_bytes}
 use Rattle.pl_lists.specs.declared.list_row.ListRow.{ListRow}
-use Rattle.pl_object.specs.Accepted.{is_exec}
 use Rattle.pl_object.specs.PlaceClauses.{is_misplaced_copy, misplaced_copy}
 use Rattle.pl_object.specs.declared.object.Object.{Object}
 use Rattle.pl_object.specs.declared.reloc.Reloc.{Reloc}

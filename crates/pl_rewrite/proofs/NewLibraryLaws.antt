@@ -1,17 +1,14 @@
 -- What the file of a library is made of.
-use Rattle.std.proofs.Common.{◌≡◌, ℕ, ◌<◌, true, false, List, [], ◌∷◌, length, drop, get_or, Option, Some, None, refl, sym, ap, subst, ◌∙◌, arith}
-use Rattle.std.specs.Prelude.{slice_get}
+use Rattle.std.proofs.Common.{◌≡◌, ℕ, ◌<◌, true, false, List, [], ◌∷◌, length, drop, Option, Some, refl, sym, ap, subst, ◌∙◌}
 use Rattle.std.specs.List.{AllZip}
 use Rattle.pl_conflict.specs.Own.{own_words}
 use Rattle.pl_conflict.specs.Prelinked.{Firm, are_set, list_of, objects_of, slots_of}
 use Rattle.pl_elf.specs.Kinds.{is_library}
-use Rattle.pl_form.specs.Files.{original_in}
 use Rattle.pl_lists.specs.declared.list_row.ListRow.{ListRow}
-use Rattle.pl_cone.specs.declared.taken.Taken.{Taken}
 use Rattle.pl_rewrite.specs.Digests.{IsDigestAt}
 use Rattle.pl_rewrite.specs.Forms.{HasFormWith}
-use Rattle.pl_rewrite.specs.Libraries.{IsNew, IsNewIfAny}
-use Rattle.pl_rewrite.specs.Rows.{IsFirmAt, IsNumbered, IsWalkRow, firm_at, firms_of, is_library_row, number_at, of_firm, walk_of}
+use Rattle.pl_rewrite.specs.Libraries.{IsNewIfAny}
+use Rattle.pl_rewrite.specs.Rows.{IsFirmAt, IsNumbered, IsWalkRow, firms_of, is_library_row, number_at, of_firm}
 use Rattle.pl_rewrite.specs.RowWords.{own_words_at}
 use Rattle.pl_rewrite.specs.Sources.{AreSources}
 use Rattle.pl_rewrite.specs.declared.numbers.Numbered.{Numbered}

@@ -1,5 +1,5 @@
 -- The file of a name after a run.
-use Rattle.std.proofs.Common.{◌≡◌, ℕ, Bool, true, false, List, Option, None, ap}
+use Rattle.std.proofs.Common.{◌≡◌, ℕ, Bool, true, false, List, None, ap}
 use Rattle.std.specs.Prelude.{if◌then◌else◌}
 use Rattle.std.specs.Option.{option_map, option_or}
 use Rattle.pl_conflict.specs.Format.{format}

@@ -1,5 +1,5 @@
 -- The row of the journal that gives a file its original.
-use Rattle.std.proofs.Common.{◌≡◌, ℕ, Bool, List, Option, Some, None, ap, ◌∙◌}
+use Rattle.std.proofs.Common.{◌≡◌, ℕ, Bool, List, Some, None, ap, ◌∙◌}
 use Rattle.std.specs.Prelude.{if◌then◌else◌}
 use Rattle.pl_cone.specs.declared.taken.Taken.{Taken}
 use Rattle.pl_form.specs.Files.{marked_in, original_in, original_or_file}

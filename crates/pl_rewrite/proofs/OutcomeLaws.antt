@@ -1,9 +1,9 @@
 -- What a run makes of a file by its outcome is what it makes of its name.
-use Rattle.std.proofs.Common.{◌≡◌, ℕ, Bool, true, false, List, [], ◌∷◌, length, Option, Some, None, Result, Ok, Err, refl, sym, ap, subst, ◌∙◌}
+use Rattle.std.proofs.Common.{◌≡◌, ℕ, Bool, true, false, List, [], ◌∷◌, Option, Some, None, Result, Ok, Err, refl, sym, ap, ◌∙◌}
 use Rattle.std.specs.Prelude.{◌&&◌, not, is_some}
 use Rattle.std.specs.Option.{option_map, option_or}
 use Rattle.std.specs.Result.{is_ok}
-use Rattle.std.proofs.lemmas.Bool.{and_left, and_parts, false≢true, not-false, not-true, true≢false}
+use Rattle.std.proofs.lemmas.Bool.{and_left, and_parts, false≢true, not-true, true≢false}
 use Rattle.std.proofs.lemmas.Option.{none-some, same_Some}
 use Rattle.pl_cone.specs.Plans as plans
 use Rattle.pl_cone.specs.Plans.{RunPlan}
@@ -13,7 +13,6 @@ use Rattle.pl_cone.specs.declared.skip.Skip.TheVariants as skips
 use Rattle.pl_cone.proofs.CandidateLaws.{candidate_is}
 use Rattle.pl_elf.specs.declared.range.Range.{Range}
 use Rattle.pl_form.specs.Files.{marked_in, original_in}
-use Rattle.pl_form.specs.declared.file.Marked.{Marked}
 use Rattle.pl_form.proofs.FilesLaws.{originals_are_bare}
 use Rattle.pl_journal.specs.declared.change.Change.{Change}
 use Rattle.pl_scope.proofs.NameLaws.{eq_refl}

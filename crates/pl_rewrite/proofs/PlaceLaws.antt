@@ -1,25 +1,25 @@
 -- The bytes at the places of a program.
-use Rattle.std.proofs.Common.{◌≡◌, ℕ, zero, suc, ◌+◌, ◌<◌, ◌≤◌, Bool, true, false, List, [], ◌∷◌, ◌++◌, length, take, drop, get_or, Option, Some, None, refl, sym, ap, subst, ◌∙◌, append_assoc, arith}
-use Rattle.std.specs.Prelude.{slice_get}
+use Rattle.std.proofs.Common.{◌≡◌, ℕ, zero, suc, ◌+◌, ◌<◌, ◌≤◌, Bool, true, false, List, [], ◌∷◌, ◌++◌, length, take, get_or, Some, None, refl, sym, ap, subst, ◌∙◌, append_assoc, arith}
+use Rattle.std.specs.Prelude.{slice_get, if◌then◌else◌}
 use Rattle.std.specs.List.{AllZip}
-use Rattle.std.proofs.lemmas.List.{append-nil, take_all, take_more}
+use Rattle.std.proofs.lemmas.List.{append-nil, take_all}
 use Rattle.std.proofs.lemmas.Option.{none-some, same_Some}
 use Rattle.pl_base.specs.Memory.{Fill, filled, layered, read}
 use Rattle.pl_cone.specs.Taken.{object_by}
 use Rattle.pl_cone.specs.declared.taken.Taken.{Taken}
-use Rattle.pl_conflict.specs.Prelinked.{Firm}
 use Rattle.pl_form.specs.Files.{original_in}
+use Rattle.pl_form.specs.Words.{has_place}
 use Rattle.pl_form.specs.declared.file.Fill as form
 use Rattle.pl_image.specs.Image.{all_pieces}
 use Rattle.pl_image.specs.Loads.{IsPlaced, loaded_at}
 use Rattle.pl_image.specs.declared.loaded_object.LoadedObject.{LoadedObject}
 use Rattle.pl_object.specs.declared.object.Object.{Object}
 use Rattle.pl_object.specs.declared.reloc.Reloc.{Reloc}
-use Rattle.pl_rewrite.specs.Copies.{AddsFill, AreBytesOf, IsFill, IsLoadedAt, IsPlacedRow, PutsFirst, loaded_for, place_of, given_places}
-use Rattle.pl_rewrite.specs.Rows.{IsFirmAt, IsNumbered, firm_by, number_at}
+use Rattle.pl_rewrite.specs.Copies.{AddsFill, AreBytesOf, AreCopied, AreProgramFills, FillsBy, FillsCopy, HasBytesAt, IsFill, IsFillAt, IsLoadedAt, IsPlacedRow, PutsFirst, loaded_for, place_of, given_places}
+use Rattle.pl_rewrite.specs.Rows.{firm_by, number_at}
 use Rattle.pl_rewrite.specs.declared.copies.Filling.{Filling}
 use Rattle.pl_rewrite.specs.declared.numbers.Numbered.{Numbered}
-use Rattle.pl_rewrite.proofs.FirmRowLaws.{IsRowOf, row_of, row_slot}
+use Rattle.pl_rewrite.proofs.FirmRowLaws.{row_of}
 use Rattle.pl_rewrite.proofs.RowTestLaws.{firm_there}
 use Rattle.pl_value.specs.declared.meaning.Meaning.{Meaning}
 
@@ -40,6 +40,41 @@ pub loaded_some : (n : Numbered) (row : ℕ) (t : Taken) (o : Object) (original 
 loaded_some n row t o original place loaded at is bytes slot made = λ r e.
     let one : firm_by n row t o ≡ r = same_Some (firm_by n row t o) r (sym (firm_there n row t o at is) ∙ e) in
     ap (λ (l : LoadedObject). Some l) (made ∙ ap (λ (k : ℕ). loaded_at k original o) slot ∙ ap (λ (bs : List ℕ). loaded_at (number_at n.places.now row) bs o) bytes ∙ ap loaded_for one)
+
+pub bytes_none : (n : Numbered) (row : ℕ) (patches : List Fill) (from size : ℕ) (bytes : List ℕ) → IsLoadedAt n row None → AreBytesOf n row patches from size bytes
+bytes_none n row patches from size bytes none = λ r e. absurd (none-some (loaded_for r) (none r e))
+
+pub bytes_some : (n : Numbered) (row : ℕ) (l : LoadedObject) (patches : List Fill) (from size : ℕ) (bytes : List ℕ) → IsLoadedAt n row (Some l) → bytes ≡ read (filled (layered (all_pieces (l ∷ []))) patches) from size → AreBytesOf n row patches from size bytes
+bytes_some n row l patches from size bytes is made = λ r e.
+    let whole : all_pieces (l ∷ []) ≡ l.pieces = append-nil l.pieces in
+    let same : l ≡ loaded_for r = same_Some l (loaded_for r) (is r e) in
+    made ∙ ap (λ ps. read (filled (layered ps) patches) from size) (whole ∙ ap (λ (x : LoadedObject). x.pieces) same)
+
+-- ---- one relocation
+
+-- what a copy makes of the bytes there
+pub copy_fills : (f : Filling) (r : Reloc) (member from size : ℕ) (standing copied before over bytes : List ℕ) → HasBytesAt f r standing → AreCopied f member from size copied → before ≡ standing → over ≡ copied → PutsFirst over before bytes → FillsCopy f r member from size bytes
+copy_fills f r member from size standing copied before over bytes stands copies one two puts = record {
+  standing = before;
+  copied = over;
+  stands = subst (HasBytesAt f r) (sym one) stands;
+  copies = subst (AreCopied f member from size) (sym two) copies;
+  puts = puts;
+}
+
+pub fill_is : (f : Filling) (r : Reloc) (g : Meaning) (bytes rows : List ℕ) → FillsBy f r g.word bytes → rows ≡ bytes → IsFillAt f r g (record { address = r.address; bytes = rows })
+fill_is f r g bytes rows fills same = (refl, subst (FillsBy f r g.word) (sym same) fills)
+
+-- NONE has no place
+pub fill_none : (f : Filling) (r : Reloc) (g : Meaning) (fills : List form.Fill) → has_place r ≡ false → AddsFill f r g fills fills
+fill_none f r g fills other =
+    let here : place_of r g ≡ [] = ap (λ (b : Bool). if b then (r, g) ∷ [] else []) other in
+    record { made = []; is = sym (append-nil fills); fills = subst (λ (ps : List (Reloc × Meaning)). AllZip (IsFill f) ps []) (sym here) tt }
+
+pub fill_pushed : (f : Filling) (r : Reloc) (g : Meaning) (fill : form.Fill) (before after : List form.Fill) → has_place r ≡ true → IsFillAt f r g fill → after ≡ before ++ fill ∷ [] → AddsFill f r g before after
+fill_pushed f r g fill before after place is more =
+    let here : place_of r g ≡ (r, g) ∷ [] = ap (λ (b : Bool). if b then (r, g) ∷ [] else []) place in
+    record { made = fill ∷ []; is = more; fills = subst (λ (ps : List (Reloc × Meaning)). AllZip (IsFill f) ps (fill ∷ [])) (sym here) (is, tt) }
 
 -- ---- one relocation after the other
 
@@ -70,3 +105,8 @@ fills_more f rs gs i d e before after lt same adds so_far =
     subst (λ (ps : List (Reloc × Meaning)). AllZip (IsFill f) ps after) (sym (places_more rs gs i d e lt same))
     (subst (λ (fs : List form.Fill). AllZip (IsFill f) (given_places (take i rs) (take i gs) ++ place_of (get_or rs i d) (get_or gs i e)) fs) (sym adds.is)
     (zip_append (IsFill f) (given_places (take i rs) (take i gs)) before (place_of (get_or rs i d) (get_or gs i e)) adds.made so_far adds.fills))
+
+pub fills_done : (f : Filling) (rs : List Reloc) (gs : List Meaning) (i : ℕ) (fills : List form.Fill) → length rs ≤ i → length gs ≡ length rs → AllZip (IsFill f) (given_places (take i rs) (take i gs)) fills → AreProgramFills f rs gs fills
+fills_done f rs gs i fills le same zip =
+    subst (λ (xs : List Reloc). AllZip (IsFill f) (given_places xs gs) fills) (take_all i rs le)
+    (subst (λ (ys : List Meaning). AllZip (IsFill f) (given_places (take i rs) ys) fills) (take_all i gs (omega (arith, le, same))) zip)

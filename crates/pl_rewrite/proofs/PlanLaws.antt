@@ -1,15 +1,12 @@
 -- A run from its plan, and what it makes of all names.
-use Rattle.std.proofs.Common.{◌≡◌, ℕ, ◌+◌, ◌<◌, ◌≤◌, Bool, true, false, List, [], ◌∷◌, ◌++◌, length, take, get_or, Option, Some, None, Result, Ok, refl, sym, ap, subst, ◌∙◌}
+use Rattle.std.proofs.Common.{◌≡◌, ℕ, ◌+◌, ◌<◌, ◌≤◌, Bool, true, false, List, [], ◌∷◌, ◌++◌, Option, Some, None, Result, Ok, refl, sym, ap, subst, ◌∙◌}
 use Rattle.std.specs.Prelude.{◌||◌, map}
 use Rattle.std.specs.List.{cons_option, filter_map, list_any}
-use Rattle.std.proofs.lemmas.List.{take_all, take_more}
 use Rattle.pl_base.specs.Answers.{◌>>=◌}
 use Rattle.pl_base.proofs.AnswerLaws.{bind_ok, ok_same}
 use Rattle.pl_elf.specs.declared.range.Range.{Range}
 use Rattle.pl_journal.specs.declared.change.Change.{Change}
 use Rattle.pl_cone.specs.Plans.{planned, slots, stale, stamp_for, standings}
-use Rattle.pl_cone.specs.Taken.{names_of}
-use Rattle.pl_cone.specs.declared.taken.Taken.{Taken}
 use Rattle.pl_cone.specs.declared.asked.Asked.{Asked}
 use Rattle.pl_cone.specs.declared.fault.PlanningFault.{PlanningFault}
 use Rattle.pl_cone.specs.Plans.{RunPlan}

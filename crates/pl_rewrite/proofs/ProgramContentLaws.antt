@@ -1,5 +1,5 @@
 -- The conflict rows and the fills that are made of a program are those of its file.
-use Rattle.std.proofs.Common.{◌≡◌, ℕ, ◌+◌, ◌-◌, ◌^◌, ◌<◌, Bool, true, false, List, [], ◌∷◌, length, map, get_or, Option, Some, None, Result, Ok, Err, refl, sym, ap, subst, ◌∙◌, arith}
+use Rattle.std.proofs.Common.{◌≡◌, ℕ, ◌+◌, ◌-◌, ◌^◌, ◌<◌, true, false, List, [], ◌∷◌, length, map, Option, Some, None, Ok, Err, sym, ap, subst, ◌∙◌, arith}
 use Rattle.std.specs.Prelude.{slice_get}
 use Rattle.std.specs.List.{All, AllZip}
 use Rattle.std.proofs.lemmas.List.{length-map}
@@ -237,9 +237,9 @@ module _ (w : Work) (row : ℕ) (l : WalkLinking) (work : IsWork w) (program : I
       let compared = are_compared ss (sources_versions rs ss are program.walk.sources) (whole_versions ss are) in
       rows_made l ss (walk_of n row) w.row_words.now rows (holds_versions ss are) compared there (all_told w row l work program linking set ss are)
 
-  pub contents_are : (c : Contents) (f : Filling) (walk : List ℕ) (own near : List Meaning) (o : Object) → walk ≡ walk_of n row → f.numbered.now ≡ n → f.walk.now ≡ walk_of n row → f.near.now ≡ words near → GivesFirst l (Ok own) → AreConflictRows l walk w.row_words.now c.rows.items
-      → AreNear l own near → slice_get (links.objects_of l) 0 ≡ Some o → AreProgramFills f o.relocations own c.fills.items → HasContents w row l c
-  contents_are c f walk own near o walked same is patches gives listed nears at filled =
+  pub contents_are : (c : Contents) (f : Filling) (walk : List ℕ) (own near : List Meaning) (o : Object) → AreProgramFills f o.relocations own c.fills.items → walk ≡ walk_of n row → f.numbered.now ≡ n → f.walk.now ≡ walk_of n row → f.near.now ≡ words near → GivesFirst l (Ok own)
+      → AreConflictRows l walk w.row_words.now c.rows.items → AreNear l own near → slice_get (links.objects_of l) 0 ≡ Some o → HasContents w row l c
+  contents_are c f walk own near o filled walked same is patches gives listed nears at =
       let rows : conflicts_with two modules ≡ Some c.rows.items = rows_in two c.rows.items walk walked listed are_two in
       let made : conflicts (objects_of two) (parts_of two) (slots_of two) modules ≡ Ok c.rows.items = ok_of (conflicts (objects_of two) (parts_of two) (slots_of two) modules) c.rows.items (sym rows) in
       let gs = values_of two c.rows.items made in

@@ -1,7 +1,6 @@
 -- The form of the program of a row, in a version.
-use Rattle.std.proofs.Common.{◌≡◌, ℕ, ◌<◌, true, false, List, [], ◌∷◌, length, get_or, Option, Some, None, Result, Ok, Err, refl, sym, ap, subst, ◌∙◌, arith}
-use Rattle.std.specs.Prelude.{drop, slice_get}
-use Rattle.std.specs.Option.{option_map}
+use Rattle.std.proofs.Common.{◌≡◌, ℕ, ◌<◌, false, List, [], ◌∷◌, length, get_or, Some, None, Ok, Err, sym, ap, subst, ◌∙◌}
+use Rattle.std.specs.Prelude.{drop}
 use Rattle.std.proofs.lemmas.List.{length-map}
 use Rattle.std.proofs.lemmas.Option.{none-some, same_Some}
 use Rattle.pl_cone.specs.Table.{IsIndexOfScope, IsWalkScope, walked_by}
@@ -42,7 +41,7 @@ use Rattle.pl_rewrite.specs.declared.numbers.PlacedWalk.{PlacedWalk}
 use Rattle.pl_rewrite.specs.declared.program.Work.{Work}
 use Rattle.pl_rewrite.proofs.LibraryAtLaws.{told_walk}
 use Rattle.pl_rewrite.proofs.NewLibraryLaws.{IsFirst, first_is}
-use Rattle.pl_rewrite.proofs.NumberedLaws.{has_walk, row_within, walk_is}
+use Rattle.pl_rewrite.proofs.NumberedLaws.{has_walk, row_within}
 use Rattle.pl_rewrite.proofs.ProgramLaws.{first_program, form_firm, form_stored, form_too_large}
 use Rattle.pl_rewrite.proofs.RowTestLaws.{file_at, firm_of_file, firm_there}
 use Rattle.pl_rewrite.proofs.VersionLaws.{lists_versions}

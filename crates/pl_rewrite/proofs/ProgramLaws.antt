@@ -32,13 +32,11 @@ use Rattle.pl_form.specs.declared.fault.FormFault.TheVariants.{TooLarge}
 use Rattle.pl_image.specs.Loads.{IsPlaced, pieces_at}
 use Rattle.pl_lists.specs.declared.conflict_row.ConflictRow.{ConflictRow}
 use Rattle.pl_lists.specs.declared.list_row.ListRow.{ListRow}
-use Rattle.pl_object.specs.declared.object.Object.{Object}
 use Rattle.pl_object.proofs.AcceptedLaws.{accepted}
 use Rattle.pl_tls.specs.declared.block.Block.{Block}
 use Rattle.pl_tls.specs.Layout.{offsets}
 use Rattle.pl_tls.specs.declared.fault.TlsFault.{TlsFault}
 use Rattle.pl_tls.specs.declared.module.Module.{Module}
-use Rattle.pl_scope.proofs.WalkedLaws.{limit_is}
 use Rattle.pl_value.specs.Meanings.{meanings}
 use Rattle.pl_value.specs.Ordinary.{ArePlaced, loaded_objects}
 use Rattle.pl_value.specs.declared.meaning.Meaning.{Meaning}

@@ -1,5 +1,5 @@
 -- What is told of the rows of stale files is enough for the files that are made of them.
-use Rattle.std.proofs.Common.{◌≡◌, ℕ, zero, suc, ◌+◌, ◌-◌, ◌<◌, ◌≤◌, Bool, true, false, List, [], ◌∷◌, length, map, Option, Some, None, refl, sym, ap, subst, ◌∙◌, arith, inl, inr}
+use Rattle.std.proofs.Common.{◌≡◌, ℕ, zero, suc, ◌+◌, ◌-◌, ◌<◌, ◌≤◌, Bool, true, false, List, [], ◌∷◌, length, map, Some, refl, sym, ap, subst, ◌∙◌, arith, inl, inr}
 use Rattle.std.specs.Prelude.{◌&&◌, ◌||◌, ◌==◌, not, slice_get, if◌then◌else◌}
 use Rattle.std.specs.List.{AllZip, list_any}
 use Rattle.std.proofs.lemmas.Bool.{and_parts, cases_lt, eq-eqb, false≢true, or_left, or_right}
@@ -9,16 +9,15 @@ use Rattle.pl_cone.specs.Table.{IsLinkKind, walked_by}
 use Rattle.pl_cone.specs.declared.link.Link.{Link}
 use Rattle.pl_cone.specs.declared.taken.Taken.{Taken}
 use Rattle.pl_conflict.specs.Own.{FindAll}
-use Rattle.pl_conflict.specs.Prelinked.{Firm, objects_of}
+use Rattle.pl_conflict.specs.Prelinked.{Firm}
 use Rattle.pl_conflict.proofs.MemberLaws.{HasOwn}
 use Rattle.pl_elf.specs.Kinds.{is_library, is_static}
 use Rattle.pl_elf.specs.declared.kind.Kind.{Kind}
 use Rattle.pl_elf.specs.declared.kind.Kind.TheVariants.{Library, Program, Static}
 use Rattle.pl_object.specs.declared.object.Object.{Object}
 use Rattle.pl_scope.specs.Scope.{objects}
-use Rattle.pl_scope.specs.declared.found.Found.{Found}
 use Rattle.pl_scope.specs.declared.index.Entry.{Entry}
-use Rattle.pl_rewrite.specs.Contents.{IsHeldRow, IsProgramRow, IsWork}
+use Rattle.pl_rewrite.specs.Contents.{IsHeldRow}
 use Rattle.pl_rewrite.specs.Flags.{flagged}
 use Rattle.pl_rewrite.specs.Outcomes.{AreHeldFlags, AreProgramRows, AreToldRows, HaveWords, IsStaleColumn, held_by, is_held, is_held_before, is_library_at, is_library_taken, is_stale, is_stale_library, is_stale_program, is_used}
 use Rattle.pl_rewrite.specs.Rows.{IsFirmAt, IsLibraryRow, IsNumbered, IsWalkRow, firms_of, is_library_row, of_firm, walk_of}
@@ -33,7 +32,7 @@ use Rattle.pl_rewrite.proofs.FirmRowLaws.{IsRowOf, firm_objects, firms_named, fi
 use Rattle.pl_rewrite.proofs.LaterMemberLaws.{IsLater, later, later_row}
 use Rattle.pl_rewrite.proofs.NewLibraryLaws.{IsFirst, first_is}
 use Rattle.pl_rewrite.proofs.RowWordLaws.{library_row}
-use Rattle.pl_rewrite.proofs.SceneLaws.{IsMemberAt, member_at}
+use Rattle.pl_rewrite.proofs.SceneLaws.{member_at}
 use Rattle.pl_rewrite.proofs.StaleLaws.{held_before_more, held_walk}
 use Rattle.pl_cone.proofs.NeedLaws.{slice_get_at}
 

@@ -1,12 +1,12 @@
 -- What the relocations of a row's file give.
-use Rattle.std.proofs.Common.{◌≡◌, ℕ, zero, suc, ◌+◌, ◌<◌, ◌≤◌, Bool, true, false, List, [], ◌∷◌, ◌++◌, length, map, get_or, Option, Some, None, refl, sym, ap, subst, ◌∙◌, arith, inl, inr}
+use Rattle.std.proofs.Common.{◌≡◌, ℕ, ◌+◌, ◌<◌, ◌≤◌, Bool, true, false, List, [], ◌∷◌, ◌++◌, length, map, get_or, Option, Some, None, refl, sym, ap, subst, ◌∙◌, arith}
 use Rattle.std.specs.Prelude.{◌||◌, slice_get}
-use Rattle.std.specs.List.{All, AllZip}
-use Rattle.std.proofs.lemmas.Bool.{cases_lt, false≢true, or_left, or_right}
+use Rattle.std.specs.List.{All}
+use Rattle.std.proofs.lemmas.Bool.{false≢true, or_left, or_right}
 use Rattle.std.proofs.lemmas.List.{length-map}
 use Rattle.std.proofs.lemmas.Option.{none-some, same_Some, slice_get-get_or}
 use Rattle.pl_cone.specs.Links.{IsLinkOf}
-use Rattle.pl_cone.specs.Table.{IsLinkBy, IsLinkKind, walked_by}
+use Rattle.pl_cone.specs.Table.{IsLinkKind, walked_by}
 use Rattle.pl_cone.specs.Candidates as candidates
 use Rattle.pl_cone.specs.Taken.{is_library_entry, object_by}
 use Rattle.pl_cone.specs.declared.link.Link.{Link}
@@ -24,7 +24,7 @@ use Rattle.pl_form.specs.Library.{IsFirmLibrary}
 use Rattle.pl_object.specs.declared.object.Object.{Object}
 use Rattle.pl_object.specs.declared.reloc.Reloc.{Reloc}
 use Rattle.pl_rewrite.specs.Held.{AreHeld}
-use Rattle.pl_rewrite.specs.Rows.{IsFirmAt, IsNumbered, IsWalkRow, firm_at, firm_by, firms_of, is_library_row, of_firm, places_of, walk_of}
+use Rattle.pl_rewrite.specs.Rows.{IsFirmAt, IsWalkRow, firm_by, firms_of, is_library_row, places_of, walk_of}
 use Rattle.pl_rewrite.specs.RowWords.{AreHeldAt, AreOfRow, FindsRow, IsLinkAt, AreRowWordsAt, AreRowWordsBy, RowWordsTo, is_asked, is_needed, is_set, own_words_at}
 use Rattle.pl_rewrite.specs.Sources.{AreSources}
 use Rattle.pl_rewrite.specs.declared.held.HeldWord.{HeldWord}

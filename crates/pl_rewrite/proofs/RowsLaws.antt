@@ -1,7 +1,7 @@
 -- Loops over the remaining relocations of members that gather conflict rows.
-use Rattle.std.proofs.Common.{◌≡◌, ℕ, zero, suc, ◌+◌, ◌-◌, ◌<◌, ◌≤◌, List, [], ◌∷◌, ◌++◌, true, length, map, drop, get_or, Option, Some, None, Result, Ok, Err, refl, sym, ap, subst, ◌∙◌, append_assoc, arith}
+use Rattle.std.proofs.Common.{◌≡◌, ℕ, zero, suc, ◌+◌, ◌-◌, ◌<◌, ◌≤◌, Bool, List, [], ◌∷◌, ◌++◌, true, length, map, drop, get_or, Option, Some, None, Result, Ok, Err, refl, sym, ap, subst, ◌∙◌, append_assoc, arith}
 use Rattle.std.specs.Prelude.{◌==◌, filter, slice_get, MatchBool, ⊤}
-use Rattle.std.specs.List.{All, AllZip}
+use Rattle.std.specs.List.{AllZip}
 use Rattle.std.specs.Option.{option_to_list}
 use Rattle.std.proofs.lemmas.Bool.{eq-eqb, eqb-true}
 use Rattle.std.proofs.lemmas.List.{append-nil, drop_more}
@@ -12,7 +12,7 @@ use Rattle.pl_base.specs.Bytes.{bytes64}
 use Rattle.pl_base.specs.Each.{each, with_front}
 use Rattle.pl_base.proofs.AnswerLaws.{ok_same}
 use Rattle.pl_base.proofs.EachLaws.{front_nothing}
-use Rattle.pl_conflict.specs.Quiet.{GivesQuiet, IsQuiet}
+use Rattle.pl_conflict.specs.Quiet.{IsQuiet}
 use Rattle.pl_conflict.specs.Between.{HoldsBetween}
 use Rattle.pl_conflict.specs.Conflicts.{held, row_of, rows_of}
 use Rattle.pl_conflict.proofs.MeaningLaws.{front_err, member_is, some_of}
@@ -33,7 +33,7 @@ use Rattle.pl_value.proofs.CollectingLaws.{member_more, member_stops, members_do
 use Rattle.pl_value.specs.declared.word.Word.{Word}
 use Rattle.pl_value.specs.declared.word.Word.TheVariants.{Put, Copy, Nothing}
 use Rattle.pl_value.proofs.MeaningLaws.{each_zip}
-use Rattle.pl_rewrite.specs.RemainingRows.{AddsMember, AddsNear, AddsRows, AreAllTold, AreNear, AreTold, HasValueAt, IsHeldOf, CanListRows, IsQuietAt, IsRowBy, RefusesOne, TellsHeldOf, all_given, given_in, indexes, is_near_word, is_put, meaning_in, told_at, told_of}
+use Rattle.pl_rewrite.specs.RemainingRows.{AddsMember, AddsNear, AddsRows, AreAllTold, AreNear, AreTold, HasValueAt, CanListRows, IsQuietAt, IsRowBy, RefusesMember, RefusesOne, TellsHeldOf, all_given, given_in, indexes, is_near_word, is_put, meaning_in, told_at, told_of}
 use Rattle.pl_rewrite.specs.Ranges.{ranges_of}
 use Rattle.pl_rewrite.specs.declared.conflict.RemainingRows.{RemainingRows}
 use Rattle.pl_rewrite.specs.declared.held.HeldWord.{HeldWord}
@@ -275,6 +275,13 @@ member_added l m told ranges before after o here adds nears = record {
   rows = λ p at. subst (λ (x : Object). AddsRows l m x.relocations told before.rows.items after.rows.items) (same_Some o p (sym here ∙ at)) adds;
   near = λ p at. subst (λ (x : Object). AddsNear l m x.relocations ranges before.near.items after.near.items) (same_Some o p (sym here ∙ at)) nears;
 }
+
+-- its first relocation without a value is the member's, by the object that it is
+pub refused_member : (l : WalkLinking) (m : ℕ) (o : Object) (rs : List Reloc) (fault : OrdinaryFault) → slice_get (objects_of l) m ≡ Some o → rs ≡ o.relocations → RefusesOne l m rs fault → RefusesMember l m fault
+refused_member l m o rs fault here same refuses = λ p at. subst (λ (ks : List Reloc). RefusesOne l m ks fault) (same ∙ ap (λ (x : Object). x.relocations) (same_Some o p (sym here ∙ at))) refuses
+
+pub memory_refused : (l : WalkLinking) (m : ℕ) (fault : OrdinaryFault) → is_memory fault ≡ true → RefusesMember l m fault
+memory_refused l m fault memory = λ p at. subst (λ (b : Bool). MatchBool b ⊤ (because Link (given_in l m p.relocations) ≡ Err fault)) (sym memory) tt
 
 pub empty_is : {X : Type 0} (xs : List X) → (length xs == 0) ≡ true → xs ≡ []
 empty_is [] e = refl

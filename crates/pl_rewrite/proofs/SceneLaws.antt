@@ -1,9 +1,8 @@
 -- The bytes that fill a place of a program are those that its scope makes there.
-use Rattle.std.proofs.Common.{◌≡◌, ℕ, zero, suc, ◌+◌, ◌-◌, ◌^◌, ◌<◌, ◌≤◌, Bool, true, false, List, [], ◌∷◌, ◌++◌, length, get_or, take, drop, Option, Some, None, refl, sym, ap, subst, ◌∙◌, arith}
+use Rattle.std.proofs.Common.{◌≡◌, ℕ, zero, suc, ◌+◌, ◌-◌, ◌^◌, ◌<◌, ◌≤◌, Bool, true, List, [], ◌∷◌, ◌++◌, length, get_or, Some, refl, sym, ap, subst, ◌∙◌, arith}
 use Rattle.std.specs.Prelude.{filter, slice_get}
-use Rattle.std.specs.List.{All, AllZip, list_any}
+use Rattle.std.specs.List.{AllZip, list_any}
 use Rattle.std.proofs.lemmas.Option.{none-some, same_Some}
-use Rattle.pl_base.specs.Bytes.{bytes64}
 use Rattle.pl_base.specs.Memory.{AtMostOne, Fill, Memory, filled, layered, lies, read}
 use Rattle.pl_conflict.specs.Fast.{is_library}
 use Rattle.pl_conflict.specs.Prelinked.{Firm, objects_of, originals_of, slots_of}
@@ -19,7 +18,7 @@ use Rattle.pl_value.specs.Targets.{base_of}
 use Rattle.pl_value.specs.declared.meaning.Meaning.{Meaning}
 use Rattle.pl_value.specs.declared.word.Word.{Word}
 use Rattle.pl_value.specs.declared.word.Word.TheVariants.{Put, Copy, Nothing}
-use Rattle.pl_rewrite.specs.Copies.{AreBytesOf, FillsBy, FillsCopy, IsFilling, row_at}
+use Rattle.pl_rewrite.specs.Copies.{AreBytesOf, FillsBy, IsFilling, row_at}
 use Rattle.pl_rewrite.specs.Fills.{memory_of}
 use Rattle.pl_rewrite.specs.Rows.{IsFirmAt}
 use Rattle.pl_rewrite.specs.declared.copies.Filling.{Filling}

@@ -1,12 +1,12 @@
 -- The bytes at a place of a program are those that its scope makes there.
-use Rattle.std.proofs.Common.{◌≡◌, ℕ, ◌+◌, ◌-◌, ◌^◌, ◌<◌, ◌≤◌, Bool, true, false, List, [], ◌∷◌, ◌++◌, length, get_or, take, drop, Option, Some, refl, sym, ap, subst, ◌∙◌, arith, inl, inr}
+use Rattle.std.proofs.Common.{◌≡◌, ℕ, ◌+◌, ◌-◌, ◌^◌, ◌<◌, ◌≤◌, Bool, true, List, [], ◌∷◌, ◌++◌, length, get_or, take, drop, Option, Some, sym, ap, ◌∙◌, arith, inl, inr}
 use Rattle.std.specs.Prelude.{filter, slice_get}
 use Rattle.std.specs.List.{list_any}
 use Rattle.std.specs.Option.{unwrap_or}
 use Rattle.std.proofs.lemmas.Bool.{cases_lt}
 use Rattle.std.proofs.lemmas.Grind.{same_number_lists}
 use Rattle.std.proofs.lemmas.List.{get_or-append_right, get_or-drop, get_or-take, get_or_append_left, length-append, length-drop, length-take}
-use Rattle.pl_base.specs.Memory.{AtMostOne, Memory, filled, is_within, layered, lies, read}
+use Rattle.pl_base.specs.Memory.{AtMostOne, Memory, filled, layered, lies, read}
 use Rattle.pl_base.proofs.MemoryLaws.{filled_same, read_byte, read_length, within_is}
 use Rattle.pl_conflict.specs.Fast.{is_library}
 use Rattle.pl_image.specs.Image.{all_pieces}
@@ -17,8 +17,8 @@ use Rattle.pl_value.specs.Linked.{relocated, under, worded, words}
 use Rattle.pl_value.specs.Ordinary.{loaded_objects, part_of}
 use Rattle.pl_value.specs.Targets.{base_of}
 use Rattle.pl_value.specs.declared.meaning.Meaning.{Meaning}
-use Rattle.pl_value.specs.declared.word.Word.TheVariants.{Put, Copy, Nothing}
-use Rattle.pl_rewrite.proofs.CopyLaws.{copied_there, gives_at, nothing_there, past_there, word_read, words_kept}
+use Rattle.pl_value.specs.declared.word.Word.TheVariants.{Copy, Nothing}
+use Rattle.pl_rewrite.proofs.CopyLaws.{copied_there, gives_at, nothing_there, past_there, words_kept}
 use Rattle.pl_rewrite.proofs.LayerLaws.{layered_own}
 use Rattle.pl_rewrite.proofs.SourceLaws.{IsSource, source_lies}
 

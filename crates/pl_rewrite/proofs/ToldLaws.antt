@@ -1,11 +1,10 @@
 -- What is told of a library's relocations is so in each walk that holds it, with its file at its slot.
-use Rattle.std.proofs.Common.{◌≡◌, ℕ, zero, suc, ◌+◌, ◌<◌, ◌≤◌, true, false, List, [], ◌∷◌, length, map, get_or, Option, Some, None, Result, Ok, Err, refl, sym, ap, subst, ◌∙◌, arith}
+use Rattle.std.proofs.Common.{◌≡◌, ℕ, ◌+◌, ◌<◌, ◌≤◌, true, false, List, [], ◌∷◌, length, get_or, Option, Some, None, Result, Ok, Err, refl, sym, ap, subst, ◌∙◌, arith}
 use Rattle.std.specs.Prelude.{slice_get}
 use Rattle.std.specs.List.{All, AllZip}
 use Rattle.std.proofs.lemmas.Bool.{false≢true}
 use Rattle.std.proofs.lemmas.List.Elements.{All-cons, All-nil}
 use Rattle.pl_base.specs.Answers.{◌>>=◌}
-use Rattle.pl_base.specs.Bytes.{bytes64}
 use Rattle.pl_base.specs.Sums.{plus}
 use Rattle.pl_base.proofs.AnswerLaws.{ok_same}
 use Rattle.pl_cone.specs.OneWord.{GivesOneWordBy}

@@ -1,28 +1,21 @@
 -- The row of a file that is verified, and the rows of the members of its walk.
-use Rattle.std.proofs.Common.{◌≡◌, ℕ, zero, suc, ◌+◌, ◌<◌, ◌≤◌, Bool, true, false, List, [], ◌∷◌, length, map, get_or, Option, Some, None, Result, Ok, Err, refl, sym, ap, subst, ◌∙◌, arith, inl, inr}
-use Rattle.std.specs.Prelude.{◌&&◌, ◌||◌, ◌==◌, is_some, not, slice_get}
-use Rattle.std.specs.List.{All, AllZip, IsDistinct, list_all, list_any}
-use Rattle.std.specs.Option.{option_and_then, option_map}
+use Rattle.std.proofs.Common.{◌≡◌, ℕ, zero, suc, ◌+◌, ◌<◌, ◌≤◌, Bool, true, false, List, [], ◌∷◌, length, Some, Ok, refl, sym, ap, subst, ◌∙◌, arith, inl, inr}
+use Rattle.std.specs.Prelude.{◌&&◌, ◌||◌, ◌==◌, not, slice_get}
+use Rattle.std.specs.List.{IsDistinct}
 use Rattle.std.specs.Str.{bytes_eq}
 use Rattle.std.proofs.lemmas.Bool.{and_from, and_parts, eq-eqb, eqb-true, false≢true, or_cases, or_left}
-use Rattle.std.proofs.lemmas.List.{length-map}
-use Rattle.std.proofs.lemmas.List.Elements.{All-head, All-tail}
-use Rattle.std.proofs.lemmas.Option.{none-some, same_Some, slice_get_within}
+use Rattle.std.proofs.lemmas.Option.{same_Some}
 use Rattle.std.proofs.lemmas.Slice.Zip.{AllZip-long}
 use Rattle.pl_cone.specs.Folder.{IsWithin}
 use Rattle.pl_cone.specs.Skipped.{skip_causes}
 use Rattle.pl_cone.specs.Skips.{of_walk}
-use Rattle.pl_cone.specs.Table.{AreRows, AreWalks, IsRunTable, folder_objects, refusals_in, walked_by}
-use Rattle.pl_cone.specs.Taken.{AreTaken, files_in, is_library_entry, marked_by}
+use Rattle.pl_cone.specs.Table.{AreRows, walked_by}
+use Rattle.pl_cone.specs.Taken.{files_in, is_library_entry}
 use Rattle.pl_cone.specs.WalkRows.{HasOwnWalk, IsLibraryOf}
-use Rattle.pl_cone.specs.declared.table.RunTable.{RunTable}
 use Rattle.pl_cone.specs.declared.taken.Taken.{Taken}
 use Rattle.pl_cone.proofs.NeedLaws.{slice_get_at}
 use Rattle.pl_cone.proofs.WalkRowLaws.{member_row}
 use Rattle.pl_conflict.specs.Format.{format}
-use Rattle.pl_conflict.specs.Prelinked.{Firm}
-use Rattle.pl_elf.specs.declared.range.Range.{Range}
-use Rattle.pl_scope.specs.Folder.{IsFolderIndex}
 use Rattle.pl_scope.specs.Members.{names}
 use Rattle.pl_scope.proofs.WalkedLaws.{limit_is, walk_distinct}
 use Rattle.law_sound.specs.Rule as sound
@@ -30,11 +23,9 @@ use Rattle.pl_rewrite.specs.Flags.{AreFlagsOf, flagged}
 use Rattle.pl_rewrite.specs.Outcomes.{AreHeldFlags, IsStaleColumn, is_held, is_library_at, is_library_taken, is_stale, is_stale_library, is_stale_program}
 use Rattle.pl_rewrite.specs.Rows.{IsFirmAt, IsNumbered, IsWalkRow, firms_of, walk_of}
 use Rattle.pl_rewrite.specs.RowWords.{is_asked, is_set}
-use Rattle.pl_rewrite.specs.Sources.{AreSources, member_names}
-use Rattle.pl_rewrite.specs.Verify.{slot_borne, stamp_borne}
 use Rattle.pl_rewrite.specs.declared.numbers.Numbered.{Numbered}
 use Rattle.pl_rewrite.proofs.CandidateRowLaws.{IsItself, names_are}
-use Rattle.pl_rewrite.proofs.FirmRowLaws.{firms_named, firms_zip, named_of}
+use Rattle.pl_rewrite.proofs.FirmRowLaws.{firms_named, firms_zip}
 use Rattle.pl_rewrite.proofs.LaterMemberLaws.{first_linked}
 use Rattle.pl_rewrite.proofs.NumberedLaws.{has_walk, walk_is}
 use Rattle.pl_rewrite.proofs.OwnWalkLaws.{members_within}

@@ -1,5 +1,5 @@
 -- What verifying makes of a row is the file that is meant of it.
-use Rattle.std.proofs.Common.{◌≡◌, ℕ, ◌<◌, ◌≤◌, Bool, true, false, List, [], ◌∷◌, length, map, get_or, Option, Some, None, refl, sym, ap, subst, ◌∙◌, arith}
+use Rattle.std.proofs.Common.{◌≡◌, ℕ, ◌<◌, ◌≤◌, Bool, true, false, List, [], ◌∷◌, length, map, Option, Some, None, refl, sym, ap, subst, ◌∙◌, arith}
 use Rattle.std.specs.Prelude.{is_some, slice_get, if◌then◌else◌}
 use Rattle.std.proofs.lemmas.Bool.{false≢true}
 use Rattle.std.proofs.lemmas.Option.{none-some}
@@ -27,7 +27,7 @@ use Rattle.pl_scope.specs.Scope.{objects}
 use Rattle.pl_scope.specs.Walk.{Walked}
 use Rattle.pl_scope.specs.declared.index.Entry.{Entry}
 use Rattle.law_sound.specs.Rule as sound
-use Rattle.pl_rewrite.specs.Rows.{IsNumbered, IsWalkRow, firms_of, is_library_row, of_firm, walk_of}
+use Rattle.pl_rewrite.specs.Rows.{IsNumbered, IsWalkRow, is_library_row, of_firm, walk_of}
 use Rattle.pl_rewrite.specs.RowWords.{IsLinkAt}
 use Rattle.pl_rewrite.specs.Sources.{AreSources}
 use Rattle.pl_rewrite.specs.Verify.{IsMeantOrNone, are_marked, is_same, is_verified, prelinked_in, slot_borne, stamp_borne, verified_original}

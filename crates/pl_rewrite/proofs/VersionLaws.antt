@@ -28,8 +28,8 @@ use Rattle.pl_value.specs.Ordinary.{loaded_objects}
 use Rattle.pl_value.specs.declared.meaning.Meaning.{Meaning}
 use Rattle.law_sound.specs.Rule.{Member}
 use Rattle.pl_rewrite.specs.Fills.{BeginsWithProgram, fills, fills_of, memory_of}
-use Rattle.pl_rewrite.specs.Forms.{BeginsWithLibrary, HasNumbers, IsLibraryWalk, has_valid_name}
-use Rattle.pl_rewrite.specs.Rows.{IsFirmAt, IsWalkRow, firm_by, firms_of, walk_of}
+use Rattle.pl_rewrite.specs.Forms.{BeginsWithLibrary, IsLibraryWalk, has_valid_name}
+use Rattle.pl_rewrite.specs.Rows.{IsFirmAt, IsWalkRow, firms_of, walk_of}
 use Rattle.pl_rewrite.specs.Sources.{AreSources, AreVersionsOf, BeginsIn, IsVersionOf, member_names, versioned}
 use Rattle.pl_rewrite.specs.declared.numbers.Numbered.{Numbered}
 use Rattle.pl_rewrite.proofs.FirmLaws.{all_true, true_all, version_is}

@@ -86,6 +86,9 @@ FillsBy f reloc Nothing bytes = HasBytesAt f reloc bytes
 abbrev pub IsFill : Filling → (Reloc × Meaning) → form.Fill → Type 0
 IsFill f place fill = (fill.address ≡ place.0.address) × FillsBy f place.0 place.1.word fill.bytes
 
+abbrev pub IsFillAt : Filling → Reloc → Meaning → form.Fill → Type 0
+IsFillAt f r g fill = IsFill f (r, g) fill
+
 abbrev pub place_of : Reloc → Meaning → List (Reloc × Meaning)
 place_of r g = if has_place r then (r, g) ∷ [] else []
 

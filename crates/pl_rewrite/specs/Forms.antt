@@ -1,5 +1,5 @@
 -- The walk of a library, whose numbers and names are such as they may be, and the library's form.
-use Rattle.std.specs.Prelude.{◌≡◌, ℕ, ◌%◌, Bool, true, List, [], ◌∷◌, drop, length, Option, Some}
+use Rattle.std.specs.Prelude.{◌≡◌, ℕ, ◌%◌, Bool, true, List, [], ◌∷◌, drop, length, Option}
 use Rattle.std.specs.List.{All, list_all}
 use Rattle.pl_base.specs.Names.{is_valid_name}
 use Rattle.pl_conflict.specs.Prelinked.{Firm, has_numbers, version_of}

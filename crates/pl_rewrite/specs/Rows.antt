@@ -1,5 +1,5 @@
 -- Rows of a folder's files with their numbers, and the members that they are.
-use Rattle.std.specs.Prelude.{◌≡◌, ◌<◌, ℕ, Bool, true, false, List, [], ◌∷◌, ◌++◌, ◌+◌, map, length, slice_get, Option, Some, None, Result, Ok, Err}
+use Rattle.std.specs.Prelude.{◌≡◌, ◌<◌, ℕ, Bool, true, false, List, [], ◌∷◌, ◌++◌, ◌+◌, map, length, slice_get, Option, Some, None}
 use Rattle.std.specs.List.{All, filter_map}
 use Rattle.std.specs.Option.{option_map}
 use Rattle.pl_base.specs.Names.{is_valid_name}

@@ -193,7 +193,8 @@ fn add_member(
     if ranges.is_empty() {
         return Ok(());
     }
-    add_near(linking, member, relocs, ranges, &mut found_rows.near)
+    add_near(linking, member, relocs, ranges, &mut found_rows.near)?;
+    Ok(())
 }
 
 /// Puts rows into ascending order of their addresses.
@@ -209,8 +210,8 @@ fn own_near(alloc: Global, own: &[Meaning], ranges: &[Range]) -> Result<Vec<Mean
     ensures { IfOk result (λ v. v.items ≡ filter (spec.is_near_word ranges.now) own.now) }
 {
     own.iter()
-        .filter(|meaning| is_near_word(ranges, meaning))
         .copied()
+        .filter(|meaning| is_near_word(ranges, meaning))
         .collect(alloc)
 }
 

@@ -1,10 +1,12 @@
 // The bytes at the places of a program: its own words, and what its copies read.
-ghost use Rattle.std.specs.Prelude.{◌≡◌, ◌<◌, IfOk, OnOk, length};
+ghost use Rattle.std.specs.Prelude.{◌≡◌, ◌<◌, IfOk, OnOk, drop, length, take};
+ghost use Rattle.pl_base.specs.Bytes.{bytes64};
+ghost use Rattle.pl_form.specs.Words as form;
 ghost use Rattle.pl_rewrite.specs.Copies as spec;
 ghost use Rattle.pl_rewrite.specs.Rows as rows;
 
 use crate::numbers::Numbered;
-use pl_base::Rows;
+use pl_base::{Rows, push64};
 use pl_elf::constants::R_X86_64_NONE;
 use pl_form::Fill;
 use pl_image::{LoadedObject, Patch, load_object};
@@ -54,17 +56,30 @@ fn bytes_of(
     }
 }
 
+/// So many of the first bytes, as far as there are any.
+fn first_bytes(bytes: &[u8], count: usize) -> &[u8]
+    ensures { result.now ≡ take count bytes.now }
+{
+    let at = count.min(bytes.len());
+    &bytes[..at]
+}
+
+/// The bytes after so many of the first.
+fn bytes_after(bytes: &[u8], count: usize) -> &[u8]
+    ensures { result.now ≡ drop count bytes.now }
+{
+    let at = count.min(bytes.len());
+    &bytes[at..]
+}
+
 /// Bytes with others written over the first of them.
 fn put_first(alloc: Global, bytes: &[u8], first: &[u8]) -> Result<Vec<u8>, AllocError>
     ensures { IfOk result (λ v. spec.PutsFirst first.now bytes.now v.items) }
 {
-    let count = if first.len() < bytes.len() {
-        first.len()
-    } else {
-        bytes.len()
-    };
-    let mut all = first[..count].to_vec(alloc)?;
-    all.extend_from_slice(&bytes[count..])?;
+    let over = first_bytes(first, bytes.len());
+    let rest = bytes_after(bytes, first.len());
+    let mut all = Vec::from_slice(alloc, over)?;
+    all.extend_from_slice(rest)?;
     Ok(all)
 }
 
@@ -114,8 +129,37 @@ fn copied(
     bytes_of(alloc, filling.numbered, row, filling.near, from, bytes)
 }
 
+/// The bytes of a word, the lowest first.
+fn word_bytes(alloc: Global, word: u64) -> Result<Vec<u8>, AllocError>
+    ensures { IfOk result (λ v. v.items ≡ bytes64 word) }
+{
+    let mut bytes = Vec::new(alloc);
+    push64(&mut bytes, word)?;
+    Ok(bytes)
+}
+
+/// The bytes of the program's original at the place of a relocation, with what it copies over the first of them.
+fn copied_over(
+    alloc: Global,
+    filling: &Filling<'_>,
+    reloc: &Reloc,
+    member: u32,
+    from: u64,
+    bytes: u64,
+) -> Result<Vec<u8>, AllocError>
+    requires filling { spec.IsFilling filling.now }
+    requires member { member < length filling.now.walk.now }
+    ensures { IfOk result (λ v. spec.FillsCopy filling.now reloc.now member from bytes v.items) }
+{
+    let standing = standing_at(alloc, filling, reloc)?;
+    let first = copied(alloc, filling, member, from, bytes)?;
+    let before = standing.as_slice();
+    let over = first.as_slice();
+    let all = put_first(alloc, before, over)?;
+    Ok(all)
+}
+
 /// The bytes at the place of a relocation of the program: the word that it gives; or those of the original, where it gives nothing; or what it copies, and behind that the original's.
-#[tactic(auto, using(pl_base::proofs::WordLaws::bytes64_std))]
 fn bytes_at(
     alloc: Global,
     filling: &Filling<'_>,
@@ -127,18 +171,40 @@ fn bytes_at(
     ensures { IfOk result (λ v. spec.FillsBy filling.now reloc.now meaning.now.word v.items) }
 {
     match meaning.word {
-        Word::Put(word) => word.to_le_bytes().to_vec(alloc),
+        Word::Put(word) => word_bytes(alloc, word),
         Word::Nothing => standing_at(alloc, filling, reloc),
         Word::Copy {
             member,
             from,
             bytes,
-        } => {
-            let place = standing_at(alloc, filling, reloc)?;
-            let first = copied(alloc, filling, member, from, bytes)?;
-            put_first(alloc, &place, &first)
-        }
+        } => copied_over(alloc, filling, reloc, member, from, bytes),
     }
+}
+
+/// The fill of a relocation of the program.
+fn fill_at(
+    alloc: Global,
+    filling: &Filling<'_>,
+    reloc: &Reloc,
+    meaning: &Meaning,
+) -> Result<Fill, AllocError>
+    requires filling { spec.IsFilling filling.now }
+    requires member { spec.IsFillOf filling.now meaning.now.word }
+    ensures { IfOk result (spec.IsFillAt filling.now reloc.now meaning.now) }
+{
+    let bytes = bytes_at(alloc, filling, reloc, meaning)?;
+    let rows = Rows::from_vec(bytes);
+    Ok(Fill {
+        address: reloc.address,
+        bytes: rows,
+    })
+}
+
+/// Whether a relocation has a place: NONE has none.
+fn has_place(reloc: &Reloc) -> bool
+    ensures { result ≡ form.has_place reloc.now }
+{
+    reloc.kind != R_X86_64_NONE
 }
 
 /// Adds the bytes at the place of a relocation of the program, unless it is NONE.
@@ -154,14 +220,12 @@ fn push_fill(
     ensures { OnOk result (spec.AddsFill filling.now reloc.now meaning.now
         fills.old.items fills.new.items) }
 {
-    if reloc.kind == R_X86_64_NONE {
+    let placed = has_place(reloc);
+    if !placed {
         return Ok(());
     }
-    let bytes = bytes_at(alloc, filling, reloc, meaning)?;
-    fills.push(Fill {
-        address: reloc.address,
-        bytes: Rows::from_vec(bytes),
-    })?;
+    let fill = fill_at(alloc, filling, reloc, meaning)?;
+    fills.push(fill)?;
     Ok(())
 }
 

@@ -1,31 +1,30 @@
 -- The index of a folder: its entries in order, each once, those of a hash, and the search among the members of a scope.
-use Rattle.std.proofs.Common.{◌≡◌, ℕ, zero, suc, ◌+◌, ◌-◌, ◌*◌, ◌<◌, ◌≤◌, Bool, true, false, ◌&&◌, ◌||◌, cond, List, [], ◌∷◌, ◌++◌, length, take, drop, map, get_or, Option, Some, None, refl, sym, ap, ◌∙◌, subst, arith, append_assoc, inl, inr}
-use Rattle.std.specs.Prelude.{slice_get, nat_lt, ◌==◌, IfSome}
+use Rattle.std.proofs.Common.{◌≡◌, ℕ, zero, suc, ◌+◌, ◌-◌, ◌*◌, ◌<◌, ◌≤◌, Bool, true, false, ◌&&◌, ◌||◌, List, [], ◌∷◌, ◌++◌, length, take, drop, get_or, Option, Some, None, refl, sym, ap, ◌∙◌, subst, arith, append_assoc}
+use Rattle.std.specs.Prelude.{slice_get, ◌==◌}
 use Rattle.std.specs.Option.{option_map, option_to_list}
-use Rattle.std.specs.List.{All, list_any, filter, filter_map, dedup, dedup_from}
-use Rattle.std.specs.List.Sorted.{IsNonDecreasingBy, IsPartitionPoint, IsPermutation}
-use Rattle.std.proofs.lemmas.Bool.{cases_Bool, cond_both, and_parts, eqb-true, eqb-false, eq-eqb, ne_eqb, ltb-true, ltb-false}
-use Rattle.std.proofs.lemmas.List.{take_more, take_all, append-nil, at_drop_more, at_drop_all, take-append-drop, length-take, length-drop, length-map, get_or-take, get_or-drop, get_or-map}
-use Rattle.std.proofs.lemmas.List.Elements.{All-append, All-cons, All-tail, All-nil, filter-append, filter_map-append}
+use Rattle.std.specs.List.{All, list_any, filter_map, dedup, dedup_from}
+use Rattle.std.specs.List.Sorted.{IsNonDecreasingBy, IsPermutation}
+use Rattle.std.proofs.lemmas.Bool.{cond_both, and_parts, eqb-true}
+use Rattle.std.proofs.lemmas.List.{take_more, take_all, append-nil, at_drop_more, at_drop_all}
+use Rattle.std.proofs.lemmas.List.Elements.{All-append, All-tail, All-nil, filter_map-append}
 use Rattle.std.proofs.lemmas.List.Filters.{All-dedup}
-use Rattle.std.proofs.lemmas.List.Sorted.{list_any-IsPermutation, All-permutation}
+use Rattle.std.proofs.lemmas.List.Sorted.{list_any-IsPermutation}
 use Rattle.pl_base.proofs.MemoryLaws.{All-filter_map}
 use Rattle.pl_sym.specs.Definers.{is_definer}
-use Rattle.pl_sym.specs.declared.symbol.Symbol.{Symbol}
 use Rattle.pl_sym.specs.declared.class.Class.{Class}
 use Rattle.pl_sym.specs.declared.class.Class.TheVariants.{Other}
 use Rattle.pl_hash.specs.Hash.{gnu}
 use Rattle.pl_elf.specs.Kinds.{is_program}
 use Rattle.pl_object.specs.declared.object.Object.{Object}
 use Rattle.pl_scope.specs.Finds.{in_member, first_in, from_member}
-use Rattle.pl_scope.specs.Index.{entry_of, entries_of, is_entry, best_of, IsBest}
+use Rattle.pl_scope.specs.Index.{entry_of, entries_of, is_entry, IsBest}
 use Rattle.pl_scope.specs.Folder.{entries_at, all_from, all_entries, order_of, is_same, AreSmallRows, IsFolderIndex, position_of, position_in, placed, IsIndexAmong, best_at}
 use Rattle.pl_scope.specs.declared.folder.Among.{Among}
 use Rattle.pl_scope.specs.declared.index.Entry.{Entry}
 use Rattle.pl_scope.specs.declared.found.Found.{Found}
 use Rattle.pl_scope.specs.declared.wanted.Wanted.{Wanted}
 use Rattle.pl_scope.proofs.FoundLaws.{member_defines}
-use Rattle.pl_scope.proofs.IndexLaws.{best_none, best_push, best_is, made_within}
+use Rattle.pl_scope.proofs.IndexLaws.{best_push, best_is, made_within}
 
 -- ---- the definers of all objects
 

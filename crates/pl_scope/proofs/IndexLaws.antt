@@ -1,11 +1,10 @@
 -- The index of a scope, and the search by it.
 use Rattle.std.proofs.Common.{◌≡◌, ◌≢◌, ℕ, zero, suc, ◌+◌, ◌-◌, ◌<◌, ◌≤◌, Bool, true, false, ◌&&◌, cond, List, [], ◌∷◌, ◌++◌, length, take, drop, get_or, Option, Some, None, refl, sym, ap, ◌∙◌, subst, arith, append_assoc, inl, inr}
-use Rattle.std.specs.Prelude.{slice_get, nat_le, nat_lt, ◌==◌, is_some, IfSome, ◌⊎◌}
+use Rattle.std.specs.Prelude.{slice_get, nat_le, nat_lt, ◌==◌, IfSome, ◌⊎◌}
 use Rattle.std.specs.Option.{option_or, option_to_list}
 use Rattle.std.specs.List.{All, list_any, filter, filter_map, range_with_len}
 use Rattle.std.specs.List.Sorted.{IsNonDecreasingBy, IsPartitionPoint, IsPermutation}
-use Rattle.std.proofs.lemmas.Bool.{cases_Bool, false≢true, and_parts, or_left, or_right, or_cases, eqb-true, eqb-false, eq-eqb, ne_eqb, leb-true, leb-false, ltb-true, ltb-false, le-leb, lt-ltb}
-use Rattle.std.proofs.lemmas.Bool.Decides.{nat_tests}
+use Rattle.std.proofs.lemmas.Bool.{cases_Bool, false≢true, and_parts, or_left, or_right, or_cases, eqb-true, eqb-false, eq-eqb, ne_eqb, leb-true, ltb-true, ltb-false, le-leb, lt-ltb}
 use Rattle.std.proofs.lemmas.List.{take_more, take_all, take-append-drop, append-nil, at_drop_more, at_drop_all, length-take, length-drop, get_or-take, get_or-drop}
 use Rattle.std.proofs.lemmas.List.Elements.{All-append, All-take, All-drop, All-nil, filter-append, filter_map-append}
 use Rattle.std.proofs.lemmas.List.Folds.{Any-from_list_any, list_any_at, list_any-append}
@@ -15,11 +14,10 @@ use Rattle.pl_base.proofs.MemoryLaws.{All-filter_map, any-filter_map, is_some_an
 use Rattle.pl_sym.specs.Definers.{is_definer}
 use Rattle.pl_sym.specs.declared.symbol.Symbol.{Symbol}
 use Rattle.pl_sym.specs.declared.class.Class.{Class}
-use Rattle.pl_sym.specs.declared.class.Class.TheVariants.{Jump, Other}
+use Rattle.pl_sym.specs.declared.class.Class.TheVariants.{Other}
 use Rattle.pl_hash.specs.Hash.{gnu}
 use Rattle.pl_elf.specs.Kinds.{is_program}
 use Rattle.pl_object.specs.declared.object.Object.{Object}
-use Rattle.pl_scope.specs.Matching.{matching}
 use Rattle.pl_scope.specs.Finds.{in_member, first_in, from_member}
 use Rattle.pl_scope.specs.Index.{entry_of, entries_from, entries, entries_of, is_entry, IsIndex, is_better, best_of, IsBest}
 use Rattle.pl_scope.specs.declared.index.Entry.{Entry}

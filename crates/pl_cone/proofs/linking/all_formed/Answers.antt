@@ -1,4 +1,3 @@
-use Rattle.std.proofs.Common.{sym}
 use Rattle.std.proofs.lemmas.Result.{err_from_is_err_and}
 use Rattle.pl_base.proofs.RunLaws.{run_done}
 use Rattle.pl_cone.proofs.FormedLaws.{by_row, formed_more, formed_stops, rows_formed}

@@ -10,7 +10,7 @@ use Rattle.pl_scope.specs.Scope.{walked, IsAccepted}
 use Rattle.pl_scope.specs.Walk.{Walked}
 use Rattle.pl_scope.specs.declared.member.Member.{Member}
 use Rattle.pl_scope.proofs.MemberLaws.{walked_push}
-use Rattle.pl_cone.specs.Table.{member_of, walked_by, with_member}
+use Rattle.pl_cone.specs.Table.{member_of, with_member}
 use Rattle.pl_cone.specs.Taken.{object_by}
 use Rattle.pl_cone.specs.declared.taken.Taken.{Taken}
 use Rattle.pl_cone.proofs.MembersLaws.{walked_cons}

@@ -1,4 +1,4 @@
-use Rattle.std.proofs.Common.{List, Option, ℕ, ap, ◌∙◌, map}
+use Rattle.std.proofs.Common.{List, ap, ◌∙◌, map}
 use Rattle.pl_slots.specs.declared.slot.Slot.{Slot}
 use Rattle.pl_cone.specs.Slots.{start_at}
 use Rattle.pl_cone.proofs.slots.slots_of.Goals as goal

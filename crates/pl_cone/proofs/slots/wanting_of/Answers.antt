@@ -1,4 +1,4 @@
-use Rattle.std.proofs.Common.{ℕ, List, Option, length, ap, ◌∙◌}
+use Rattle.std.proofs.Common.{List, Option, length, ap, ◌∙◌}
 use Rattle.pl_slots.specs.declared.slot.Want.{Want}
 use Rattle.pl_cone.specs.Slots.{is_there, position_at, position_if, want_at}
 use Rattle.pl_cone.proofs.NumberLaws.{column_more, given_column}

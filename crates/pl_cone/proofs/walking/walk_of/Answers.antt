@@ -1,11 +1,9 @@
-use Rattle.std.proofs.Common.{◌≡◌, ℕ, ◌+◌, ◌<◌, List, Err, sym, subst, ◌∙◌, arith}
+use Rattle.std.proofs.Common.{◌≡◌, ℕ, ◌+◌, ◌<◌, List, sym, subst, ◌∙◌, arith}
 use Rattle.std.proofs.lemmas.Result.{err_from_is_err_and}
-use Rattle.pl_scope.specs.Walk as scope
-use Rattle.pl_cone.specs.Needs.{entered, name_of}
-use Rattle.pl_cone.specs.Skips.{of_walk}
+use Rattle.pl_cone.specs.Needs.{entered}
 use Rattle.pl_cone.specs.Table.{IsWalkAt, walk_at}
 use Rattle.pl_cone.proofs.NeedLaws.{files_few}
-use Rattle.pl_cone.proofs.UnderLaws.{object_named, under_begins, under_ends, under_more, under_stops, walk_at_is}
+use Rattle.pl_cone.proofs.UnderLaws.{under_begins, under_ends, under_more, under_stops, walk_at_is}
 use Rattle.pl_cone.proofs.WalkingLaws.{answers_err, ready_after}
 use Rattle.pl_cone.proofs.walking.walk_of.Goals as goal
 

@@ -1,4 +1,4 @@
-use Rattle.std.proofs.Common.{◌≡◌, ℕ, List, Result, subst, arith}
+use Rattle.std.proofs.Common.{◌≡◌, List, subst, arith}
 use Rattle.std.specs.Prelude.{IfErr, IfOk, Err}
 use Rattle.pl_base.specs.Answers.{Answers}
 use Rattle.pl_cone.specs.Skips.{skip_is_memory}

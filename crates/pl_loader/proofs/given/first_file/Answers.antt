@@ -1,6 +1,5 @@
 use Rattle.std.proofs.Common.{◌≡◌, ◌∙◌, ℕ, List, Ok, Err, ap, sym}
 use Rattle.pl_pie.specs.Placed.{placed}
-use Rattle.pl_pie.specs.declared.placing.Placing.TheVariants as placings
 use Rattle.pl_pie.proofs.HoldLaws.{by_function}
 use Rattle.pl_loader.specs.declared.fault.LoadFault.TheVariants as faults
 use Rattle.pl_loader.specs.Given.{first_by, first_of}

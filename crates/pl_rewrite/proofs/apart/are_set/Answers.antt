@@ -1,4 +1,4 @@
-use Rattle.std.proofs.Common.{false, true, length, refl, sym, ◌∙◌, ◌-◌, take, drop, arith, ◌<◌}
+use Rattle.std.proofs.Common.{false, true, length, refl, sym, ◌∙◌, ◌-◌, take, drop, ◌<◌}
 use Rattle.std.specs.Prelude.{not}
 use Rattle.std.specs.List.{flat_map, list_all}
 use Rattle.pl_base.specs.Windows.{any_share}

@@ -12,7 +12,7 @@ use Rattle.pl_rewrite.specs.declared.row_words.RowWords.{RowWords}
 use Rattle.pl_scope.proofs.MemberLaws.{length_objects}
 use Rattle.pl_value.specs.Ordinary.{loaded_objects}
 use Rattle.pl_value.specs.declared.fault.OrdinaryFault.TheVariants.{Link}
-use Rattle.pl_rewrite.specs.RemainingRows.{AddsNear, AddsRows, TellsHeldOf, is_near_word, told_at}
+use Rattle.pl_rewrite.specs.RemainingRows.{AddsNear, AddsRows, TellsHeldOf, is_near_word}
 use Rattle.pl_rewrite.specs.Ranges.{ranges_of}
 use Rattle.pl_rewrite.proofs.RowsLaws.{listed_done, listed_more, listed_stops, near_is, object_at, first_listed, told_is}
 use Rattle.pl_rewrite.proofs.conflict.remaining_rows.Goals as goal
@@ -21,6 +21,12 @@ pub loop-member-init : goal.loop-member-init
 loop-member-init c =
     first_listed c.args.linking.now c.args.walk.now c.args.row_words.now c.args.own.now (ranges_of c.args.own.now) c.new.result.items c.in_ok-own_near.field-0.items c.requires.row_words c.new.ensures.items
     (c.in_ok-own_near.ensures ∙ ap (λ (rs : List Range). filter (is_near_word rs) c.args.own.now) (c.deref.ensures.value ∙ c.in_ok-ranges.ensures))
+
+pub bounds-walk-member : goal.bounds-walk-member
+bounds-walk-member c = omega (arith, c.loop-member-test.true, c.count-member-end.ensures.count, length_objects c.args.linking.now.scope.now, c.requires.row_words.one_each)
+
+pub bounds-row_words-row : goal.bounds-row_words-row
+bounds-row_words-row c = c.requires.row_words.within c.loop-member.member 0 (omega (arith, c.loop-member-test.true, c.count-member-end.ensures.count, length_objects c.args.linking.now.scope.now, c.requires.row_words.one_each))
 
 pub add_member-requires-clause-held : goal.add_member-requires-clause-held
 add_member-requires-clause-held c = λ o at.

@@ -1,5 +1,5 @@
 use Rattle.std.proofs.Common.{◌≡◌, ◌+◌, [], length, drop}
-use Rattle.std.specs.Prelude.{false, take}
+use Rattle.std.specs.Prelude.{take}
 use Rattle.std.specs.Vec.Iter.{into_iter_items, into_iter_len}
 use Rattle.pl_rewrite.specs.Outcomes.{all_made}
 use Rattle.pl_rewrite.proofs.finishing.all_made.Given as goal

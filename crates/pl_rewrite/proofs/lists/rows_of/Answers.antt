@@ -1,4 +1,3 @@
-use Rattle.std.proofs.Common.{refl}
 use Rattle.pl_rewrite.proofs.DigestLaws.{listed_done, listed_more}
 use Rattle.pl_rewrite.proofs.lists.rows_of.Goals as goal
 

@@ -69,5 +69,5 @@ pub returns : goal.returns
 returns c =
     let gives = subst (λ (gs : List Meaning). GivesFirst c.args.linking.now (Ok gs)) (sym c.as_slice-own.ensures) c.in_ok-meanings.ensures in
     let patches = c.deref-2.ensures.value ∙ (c.in_ok-patches.ensures ∙ ap words c.deref.ensures.value) in
-    contents_are c.args.work.now c.args.row c.args.linking.now c.requires.work c.requires.program c.requires.linking c.requires.set _ _ c.walk-walk.result.now c.as_slice-own.result.now c.in_ok-made.made.near.items c.object-object.result.now c.walk-walk.ensures refl c.walk-walk.ensures patches gives
-    c.in_ok-made.ensures.rows c.in_ok-made.ensures.near c.object-object.ensures.object (rw c.as_slice-relocs.ensures at c.in_ok-fills.ensures)
+    contents_are c.args.work.now c.args.row c.args.linking.now c.requires.work c.requires.program c.requires.linking c.requires.set _ _ c.walk-walk.result.now c.as_slice-own.result.now c.in_ok-made.made.near.items c.object-object.result.now (rw c.as_slice-relocs.ensures at c.in_ok-fills.ensures) c.walk-walk.ensures refl c.walk-walk.ensures patches gives
+    c.in_ok-made.ensures.rows c.in_ok-made.ensures.near c.object-object.ensures.object

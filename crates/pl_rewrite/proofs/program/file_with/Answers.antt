@@ -1,7 +1,7 @@
 use Rattle.std.proofs.Common.{refl}
 use Rattle.std.proofs.lemmas.Result.{IfOk-weaker}
 use Rattle.pl_rewrite.specs.Rows.{firms_of}
-use Rattle.pl_rewrite.proofs.FileContentLaws.{file_of_form, no_file}
+use Rattle.pl_rewrite.proofs.FileContentLaws.{file_of_linking, no_linking}
 use Rattle.pl_rewrite.proofs.ProgramFormLaws.{linking_of}
 use Rattle.pl_rewrite.proofs.ProgramLaws.{first_fills}
 use Rattle.pl_rewrite.proofs.program.file_with.Goals as goal
@@ -15,10 +15,9 @@ form_of-requires-clause-fills c = first_fills (firms_of c.args.work.now.numbered
 
 pub returns-in-Ok : goal.returns-in-Ok
 returns-in-Ok c =
-    let linking = linking_of c.args.work.now c.args.row c.args.placed.now _ c.requires.work.numbered c.requires.program.walk c.requires.placed refl refl c.among-among.ensures.index c.among-among.ensures.positions in
-    IfOk-weaker c.form_of.result _ _ (λ made e. file_of_form c.args.work.now c.args.row _ c.requires.work c.requires.program linking c.requires.set c.in-Ok.made c.args.version made c.in-Ok.ensures e) c.form_of.ensures
+    IfOk-weaker c.form_of.result _ _
+    (λ made e. file_of_linking c.args.work.now c.args.row _ c.args.placed.now c.in-Ok.made c.args.version made c.in-Ok.ensures c.requires.work c.requires.program c.requires.placed c.requires.set refl refl c.among-among.ensures.index c.among-among.ensures.positions e) c.form_of.ensures
 
 pub returns-in-Err-Link : goal.returns-in-Err-Link
 returns-in-Err-Link c =
-    let linking = linking_of c.args.work.now c.args.row c.args.placed.now _ c.requires.work.numbered c.requires.program.walk c.requires.placed refl refl c.among-among.ensures.index c.among-among.ensures.positions in
-    no_file c.args.work.now c.args.row _ c.requires.work c.requires.program linking c.requires.set _ c.args.version (rw c.in-Err-Link.field-0-is at c.in-Err-Link.ensures)
+    no_linking c.args.work.now c.args.row c.args.placed.now c.among-among.result c.args.modules.now _ c.args.version c.requires.work c.requires.program c.requires.placed c.requires.set c.among-among.ensures.index c.among-among.ensures.positions (rw c.in-Err-Link.field-0-is at c.in-Err-Link.ensures)

@@ -1,5 +1,4 @@
-use Rattle.std.proofs.Common.{◌≡◌, List, Ok, Err, Some, ap, length, subst, sym, ◌∙◌}
-use Rattle.pl_form.specs.Program as form
+use Rattle.std.proofs.Common.{◌≡◌, ap, length, sym, ◌∙◌}
 use Rattle.pl_form.specs.declared.fault.FormFault.TheVariants.{TooLarge}
 use Rattle.pl_rewrite.proofs.DigestLaws.{numbered_read, read_item}
 use Rattle.pl_rewrite.proofs.NumberedLaws.{row_within}

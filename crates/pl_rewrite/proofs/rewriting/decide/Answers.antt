@@ -1,4 +1,4 @@
-use Rattle.std.proofs.Common.{◌≡◌, List, Err, Ok, sym, subst}
+use Rattle.std.proofs.Common.{◌≡◌, List, Err, sym, subst}
 use Rattle.std.proofs.lemmas.Result.{err_from_is_err_and}
 use Rattle.pl_base.specs.Answers.{Answers}
 use Rattle.pl_cone.specs.Faulted.{is_memory}

@@ -1,5 +1,5 @@
-use Rattle.std.proofs.Common.{◌≡◌, ℕ, List, length, refl, subst, sym, ap, ◌∙◌, arith}
-use Rattle.pl_cone.specs.Table.{IsWalkScope, walked_by}
+use Rattle.std.proofs.Common.{◌≡◌, ℕ, List, length, refl, subst, ap, ◌∙◌, arith}
+use Rattle.pl_cone.specs.Table.{IsWalkScope}
 use Rattle.pl_rewrite.proofs.NumberedLaws.{row_within}
 use Rattle.pl_rewrite.proofs.ProgramFormLaws.{index_of_walk}
 use Rattle.pl_rewrite.proofs.RowTestLaws.{file_at}

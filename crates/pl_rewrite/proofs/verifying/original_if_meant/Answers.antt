@@ -1,6 +1,5 @@
-use Rattle.std.proofs.Common.{◌≡◌, List, ℕ, Option, Some, refl, sym, ap, subst, ◌∙◌}
+use Rattle.std.proofs.Common.{◌≡◌, List, ℕ, Some, refl, sym, ap, ◌∙◌}
 use Rattle.std.proofs.lemmas.Option.{same_Some}
-use Rattle.pl_cone.specs.Taken.{files_in}
 use Rattle.pl_cone.specs.declared.taken.Taken.{Taken}
 use Rattle.pl_rewrite.specs.Verify.{is_same}
 use Rattle.pl_rewrite.proofs.VerifyingLaws.{other_file, same_file}

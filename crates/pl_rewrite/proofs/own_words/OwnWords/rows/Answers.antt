@@ -1,5 +1,4 @@
-use Rattle.std.proofs.Common.{◌∙◌, ap, sym}
-use Rattle.pl_rewrite.specs.Words as spec
+use Rattle.std.proofs.Common.{◌∙◌}
 use Rattle.pl_rewrite.proofs.own_words.OwnWords.rows.Goals as goal
 
 pub returns : goal.returns
