@@ -255,8 +255,11 @@ fn tables_in(alloc: Global, file: &[u8], object: &Object) -> Result<Rows<Range>,
     let segments = object.segments.as_slice();
     let sections = object.sections.as_slice();
     let tags = read_tags(alloc, loaded(file, segments, dynamic_memory(segments)))?;
-    let windows = link_windows(alloc, &object.header, segments, sections, &tags)?;
-    ranges_of(alloc, &windows)
+    let told = tags.as_slice();
+    let windows = link_windows(alloc, &object.header, segments, sections, told)?;
+    let all = windows.as_slice();
+    let tables = ranges_of(alloc, all)?;
+    Ok(tables)
 }
 
 /// An object with other link tables.
