@@ -10,10 +10,9 @@ ghost use Rattle.pl_object.specs.Tables.{window_range};
 ghost use Rattle.pl_pie.specs.Fix as spec;
 
 use crate::links::moves;
-use crate::words::is_allocated;
 use pl_base::Rows;
 use pl_dyn::read_tags;
-use pl_elf::constants::{R_X86_64_NONE, R_X86_64_RELATIVE};
+use pl_elf::constants::{R_X86_64_NONE, R_X86_64_RELATIVE, SHF_ALLOC};
 use pl_elf::{Header, Range, Section, Segment, is_moved_kind};
 use pl_object::tables::link_windows;
 use pl_object::tags::dynamic_memory;
@@ -56,14 +55,14 @@ fn header_at(header: &Header, address: u64) -> Header
 }
 
 /// Where a section is that has an address.
-#[tactic(auto, unfolding(law_fixed::specs::Fixed::fixed_section, pl_object::specs::Tables::is_allocated))]
+#[tactic(auto, unfolding(law_fixed::specs::Fixed::fixed_section))]
 fn section_at(section: &Section, address: u64) -> Section
     ensures { result ≡ fixed.fixed_section address section.now }
 {
-    let addr = if is_allocated(section) {
-        section.addr.wrapping_add(address)
-    } else {
+    let addr = if section.flags & SHF_ALLOC == 0 {
         section.addr
+    } else {
+        section.addr.wrapping_add(address)
     };
     Section {
         name: section.name,
@@ -143,7 +142,7 @@ fn addend_at(reloc: &Reloc, address: u64) -> i64
     ensures { result ≡ (fixed.fixed_reloc address reloc.now).addend }
 {
     if reloc.kind == R_X86_64_RELATIVE {
-        (reloc.addend as u64).wrapping_add(address) as i64
+        reloc.addend.cast_unsigned().wrapping_add(address).cast_signed()
     } else {
         reloc.addend
     }

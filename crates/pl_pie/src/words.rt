@@ -13,7 +13,7 @@ use pl_sym::Symbol;
 use pl_sym::constants::SYMBOL_SIZE;
 use std::alloc::{AllocError, Global};
 
-pub fn is_allocated(section: &Section) -> bool
+fn is_allocated(section: &Section) -> bool
     ensures { result ≡ tables.is_allocated section.now }
 {
     section.flags & SHF_ALLOC != 0
