@@ -107,8 +107,12 @@ fn names_at(
 pub fn of_link(alloc: Global, members: &[Member<'_>], fault: LinkFault) -> Result<Skip, AllocError>
     ensures { IfOk result (λ skip. skip ≡ spec.of_link (walked members.now) fault) }
 {
-    let Names { object, symbol } =
-        names_at(alloc, members, fault_member(fault), fault_symbol(fault))?;
+    let Names { object, symbol } = names_at(
+        alloc,
+        members,
+        fault_member(fault),
+        fault_symbol(fault),
+    )?;
     Ok(match fault {
         LinkFault::Undefined { .. } => Skip::Undefined { object, symbol },
         LinkFault::UndefinedTls { .. } => Skip::UndefinedTls { object, symbol },

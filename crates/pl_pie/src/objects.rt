@@ -142,7 +142,11 @@ fn addend_at(reloc: &Reloc, address: u64) -> i64
     ensures { result ≡ (fixed.fixed_reloc address reloc.now).addend }
 {
     if reloc.kind == R_X86_64_RELATIVE {
-        reloc.addend.cast_unsigned().wrapping_add(address).cast_signed()
+        reloc
+            .addend
+            .cast_unsigned()
+            .wrapping_add(address)
+            .cast_signed()
     } else {
         reloc.addend
     }
