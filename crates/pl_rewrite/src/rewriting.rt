@@ -1,5 +1,4 @@
 // A whole run that prelinks everything.
-ghost use Rattle.std.specs.Prelude.{◌≡◌};
 ghost use Rattle.pl_base.specs.Answers.{Answers};
 ghost use Rattle.pl_cone.specs.Faulted.{is_memory};
 ghost use Rattle.pl_cone.specs.Taken.{AreTaken, files_in, names_of};
