@@ -78,8 +78,8 @@ abbrev pub HasTaken : List ℕ → Result (Vec ℕ Global) Stop → Seen → See
 HasTaken name result old new = Finds (is_valid_name name) (Asks (count_by is_valid_name (name ∷ []))) (file_in old.files name) (λ bytes. bytes.items) result old new
 
 -- the same of a name of the walk of a name that is loaded
-abbrev pub HasGiven : Policy → List ℕ → List ℕ → Result (Vec ℕ Global) Stop → Seen → Seen → Type 0
-HasGiven policy name n result old new = Finds (is_valid_name n) (Asks (count_by is_valid_name (n ∷ []))) (loading_file policy old.files name n) (λ bytes. bytes.items) result old new
+abbrev pub HasGiven : Policy → List ℕ → List ℕ → Result (List ℕ) Stop → Seen → Seen → Type 0
+HasGiven policy name n result old new = Finds (is_valid_name n) (Asks (count_by is_valid_name (n ∷ []))) (loading_file policy old.files name n) (λ file. file) result old new
 
 abbrev pub HasObject : List ℕ → Result NamedObject Stop → Seen → Seen → Type 0
 HasObject name result old new = Finds (is_valid_name name) (Asks (count_by is_valid_name (name ∷ []))) (object_in old.files name) (λ m. m.object) result old new

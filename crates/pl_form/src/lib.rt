@@ -45,6 +45,6 @@ use mark::Mark;
 pub use part_laws::{forms_are_undone, forms_bear_segments, forms_hold_fills, forms_load_alike};
 pub use parts::{Extension, FormPlan, Listed, Spot};
 pub use program_form::{form_program, form_program_with};
-pub use reading::read_file;
+pub use reading::{bears_mark, read_file};
 pub use undoing::undo;
 pub use version::Version;

@@ -9,6 +9,7 @@ pub returns-in-NotPie-clause-means : goal.returns-in-NotPie-clause-means
 unfolding first_of
 returns-in-NotPie-clause-means g c choose follows =
     ap (first_by c.args.name.now c.args.bytes.items) (ap (placed choose) (sym c.deref.ensures.value) ∙ sym (by_function c.in_ok-fix_placed.ensures.placed choose follows) ∙ c.in-NotPie.is)
+    ∙ ap (λ (file : List ℕ). Ok file) (sym c.new.ensures)
 
 pub returns-in_ok-copy_of-in-NoPlace-clause-means : goal.returns-in_ok-copy_of-in-NoPlace-clause-means
 unfolding first_of
@@ -16,8 +17,8 @@ returns-in_ok-copy_of-in-NoPlace-clause-means g c choose follows =
     ap (first_by c.args.name.now c.args.bytes.items) (ap (placed choose) (sym c.deref.ensures.value) ∙ sym (by_function c.in_ok-fix_placed.ensures.placed choose follows) ∙ c.in-NoPlace.is)
     ∙ ap (λ (n : List ℕ). Err (faults.NoPlace n)) (sym c.in_ok-copy_of-in-NoPlace.ensures)
 
-pub returns-in-Fixed-clause-means : goal.returns-in-Fixed-clause-means
+pub returns-in_ok-fixed-in-Fixed-clause-means : goal.returns-in_ok-fixed-in-Fixed-clause-means
 unfolding first_of
-returns-in-Fixed-clause-means g c choose follows =
+returns-in_ok-fixed-in-Fixed-clause-means g c choose follows =
     ap (first_by c.args.name.now c.args.bytes.items) (ap (placed choose) (sym c.deref.ensures.value) ∙ sym (by_function c.in_ok-fix_placed.ensures.placed choose follows) ∙ c.in-Fixed.is)
-    ∙ ap (λ (file : List ℕ). Ok file) (sym c.into_vec.ensures)
+    ∙ ap (λ (file : List ℕ). Ok file) (sym c.in_ok-fixed-in-Fixed.ensures)
