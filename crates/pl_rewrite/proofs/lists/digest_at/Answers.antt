@@ -2,8 +2,8 @@ use Rattle.std.proofs.Common.{arith}
 use Rattle.pl_rewrite.proofs.DigestLaws.{digest_made, digest_told, digests_count, read_item}
 use Rattle.pl_rewrite.proofs.lists.digest_at.Goals as goal
 
-pub bounds-digests-row : goal.bounds-digests-row
-bounds-digests-row c = omega (arith, digests_count c.args.files.now c.args.digests.now c.requires.digests, c.requires.row)
+pub bounds : goal.bounds
+bounds c = omega (arith, digests_count c.args.files.now c.args.digests.now c.requires.digests, c.requires.row)
 
 pub original-requires : goal.original-requires
 original-requires c = read_item c.args.files.now c.args.row c.index-files-row.result c.requires.taken c.requires.row c.index-files-row.is
