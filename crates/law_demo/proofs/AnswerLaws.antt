@@ -13,7 +13,7 @@ use Rattle.pl_base.specs.Names.{is_valid_name}
 use Rattle.pl_base.proofs.AnswerLaws.{bind_ok, ok_same, unless_ok}
 use Rattle.pl_cli.specs.Demo.{is_fast}
 use Rattle.pl_cli.specs.Files.{file_in, of_file, valid_file}
-use Rattle.pl_weave.specs.Given.{first_by, first_of, given_from}
+use Rattle.pl_loader.specs.Given.{first_by, first_of, given_from}
 use Rattle.pl_cli.specs.Load.{choice, given_file, load_result, loading_file}
 use Rattle.pl_cli.specs.Cause.{Cause}
 use Rattle.pl_cli.specs.Cause.TheVariants as cause

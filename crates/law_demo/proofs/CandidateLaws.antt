@@ -37,10 +37,10 @@ use Rattle.law_sound.specs.Plan.{fits, is_candidate, links_as}
 use Rattle.law_sound.specs.Rule.{Files, Format, object_at, objects, original_at, walk_in}
 use Rattle.pl_conflict.specs.Format.{format, read_original}
 use Rattle.pl_cone.specs.declared.skip.Skip.{Skip}
-use Rattle.pl_rewrite.specs.Faults.{fault_in}
-use Rattle.pl_rewrite.specs.Fits.{fit_in, links, resolves}
-use Rattle.pl_rewrite.specs.Skips.{skip_causes}
-use Rattle.pl_rewrite.proofs.LinkLaws.{each_read}
+use Rattle.pl_cone.specs.Faults.{fault_in}
+use Rattle.pl_cone.specs.Fits.{fit_in, links, resolves}
+use Rattle.pl_cone.specs.Skipped.{skip_causes}
+use Rattle.pl_cone.proofs.LinkLaws.{each_read}
 use Rattle.pl_build.specs.declared.kind.FileKind.{FileKind}
 use Rattle.pl_build.specs.declared.kind.FileKind.TheVariants.{Library, Pie, Program, Static}
 use Rattle.pl_build.specs.declared.layout.Tables.{Tables}

@@ -46,7 +46,7 @@ use Rattle.pl_gen.specs.Lines.{program_name}
 use Rattle.pl_gen.specs.Set as drawn
 use Rattle.pl_journal.specs.Meaning.{applied}
 use Rattle.pl_journal.specs.declared.change.Change.{Change}
-use Rattle.pl_rewrite.specs.Skips.{skip_causes}
+use Rattle.pl_cone.specs.Skipped.{skip_causes}
 use Rattle.pl_rewrite.specs.Changes.{from_scratch}
 use Rattle.pl_rewrite.proofs.SoundLaws.{next_is_from_scratch}
 use Rattle.pl_scope.specs.Members.{has}

@@ -61,7 +61,7 @@ use Rattle.pl_gen.specs.Draws.{after, at, seeded}
 use Rattle.pl_gen.specs.Lines.{library_name, program_name}
 use Rattle.pl_gen.specs.Set as drawn
 use Rattle.pl_journal.specs.Meaning.{applied}
-use Rattle.pl_rewrite.specs.Skips.{skip_causes}
+use Rattle.pl_cone.specs.Skipped.{skip_causes}
 use Rattle.pl_loader.specs.Started.{Start}
 use Rattle.pl_object.specs.Reads.{object, reads}
 use Rattle.pl_object.specs.declared.object.Object.{Object}

@@ -10,7 +10,7 @@ use Rattle.pl_batch.specs.All.{asked_of}
 use Rattle.pl_batch.specs.Folder.{named}
 use Rattle.pl_change.specs.Folder.{valid_names}
 use Rattle.pl_cli.specs.Files.{valid_file}
-use Rattle.pl_cone.specs.Current.{slot_of}
+use Rattle.pl_cone.specs.Plans.{slot_of}
 use Rattle.pl_conflict.specs.Complete.{file_at}
 use Rattle.pl_conflict.specs.Format.{format, slot_at}
 use Rattle.pl_elf.specs.Kinds.{is_library}
@@ -21,12 +21,12 @@ use Rattle.law_folder.proofs.NextLemmas.{gives_next}
 use Rattle.law_folder.proofs.PlanLemmas.{are_names}
 use Rattle.law_folder.proofs.WantLemmas.{candidate_slot, slot_start}
 use Rattle.pl_journal.specs.Meaning.{applied}
-use Rattle.pl_rewrite.specs.Plans.{is_candidate, planned}
-use Rattle.pl_rewrite.specs.Skips.{skip_causes}
+use Rattle.pl_cone.specs.Plans.{is_candidate, planned}
+use Rattle.pl_cone.specs.Skipped.{skip_causes}
 use Rattle.pl_loader.specs.Places.{kept_free, misses}
 use Rattle.pl_object.specs.declared.object.Object.{Object}
 use Rattle.pl_cone.specs.declared.asked.Asked.{Asked}
-use Rattle.pl_cone.specs.declared.run_plan.RunPlan.{RunPlan}
+use Rattle.pl_cone.specs.Plans.{RunPlan}
 use Rattle.pl_rewrite.specs.Changes.{from_scratch, numbers}
 use Rattle.pl_rewrite.specs.Laws.{AreNames}
 use Rattle.pl_rewrite.proofs.SoundLaws.{next_is_from_scratch}

@@ -27,13 +27,13 @@ use Rattle.pl_conflict.specs.Prelinked.{Firm, is_program_place, list_of, list_ro
 use Rattle.pl_conflict.proofs.GivenLaws.{own_meanings}
 use Rattle.pl_conflict.proofs.MemberLaws.{HasOwn, IsSet, program_numbers, set_is}
 use Rattle.pl_rewrite.specs.Fills.{fills, memory_of}
-use Rattle.pl_rewrite.specs.Programs.{IsProgramSet}
+use Rattle.pl_rewrite.specs.Fills.{IsProgramSet}
 use Rattle.pl_rewrite.specs.Sources.{AreSources}
 use Rattle.pl_rewrite.proofs.FillLaws.{are_fills, flat_same}
 use Rattle.pl_rewrite.proofs.FirmLaws.{own_all}
 use Rattle.pl_rewrite.proofs.ProgramLaws.{originals_placed, firm_program}
 use Rattle.pl_scope.proofs.WalkedLaws.{limit_is}
-use Rattle.pl_rewrite.specs.Fits.{resolves}
+use Rattle.pl_cone.specs.Fits.{resolves}
 use Rattle.law_folder.proofs.LinkLemmas.{Links, file_is, links_at}
 use Rattle.law_demo.proofs.LengthLaws.{conflicts_most, program_most, relocations_in}
 

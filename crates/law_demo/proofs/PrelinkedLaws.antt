@@ -20,10 +20,10 @@ use Rattle.law_folder.proofs.BesideLemmas as beside
 use Rattle.law_folder.proofs.CandidateLemmas.{IsProgramWalk, program_stored, program_walk}
 use Rattle.law_folder.proofs.ProgramLemmas.{firms_of}
 use Rattle.law_folder.proofs.SetLemmas.{firm_for}
-use Rattle.pl_rewrite.specs.Plans.{is_candidate, planned}
-use Rattle.pl_rewrite.specs.Skips.{skip_causes}
+use Rattle.pl_cone.specs.Plans.{is_candidate, planned}
+use Rattle.pl_cone.specs.Skipped.{skip_causes}
 use Rattle.pl_object.specs.declared.object.Object.{Object}
-use Rattle.pl_cone.specs.declared.run_plan.RunPlan.{RunPlan}
+use Rattle.pl_cone.specs.Plans.{RunPlan}
 use Rattle.pl_rewrite.proofs.ProgramLaws.{stored_small}
 use Rattle.pl_rewrite.specs.Changes.{numbers}
 use Rattle.pl_scope.specs.Scope as scope

@@ -13,7 +13,7 @@ use Rattle.pl_base.specs.Names.{is_valid_name}
 use Rattle.pl_batch.specs.Folder.{named}
 use Rattle.pl_batch.specs.declared.prelinking.Prelinking.{Prelinking}
 use Rattle.pl_cli.specs.Files.{valid_file}
-use Rattle.pl_cone.specs.Current.{slot_of}
+use Rattle.pl_cone.specs.Plans.{slot_of}
 use Rattle.pl_cone.specs.declared.skip.Skip.{Skip}
 use Rattle.pl_conflict.specs.Format.{Rule, format, slot_at}
 use Rattle.pl_conflict.specs.Prelinked as prelinked
@@ -28,10 +28,10 @@ use Rattle.law_folder.specs.All.{HasNext}
 use Rattle.law_folder.proofs.NextLemmas.{gives_next}
 use Rattle.pl_journal.specs.Meaning.{applied}
 use Rattle.pl_journal.specs.declared.change.Change.{Change}
-use Rattle.pl_rewrite.specs.Fits.{fit_in}
-use Rattle.pl_rewrite.specs.Skips.{skip_causes}
+use Rattle.pl_cone.specs.Fits.{fit_in}
+use Rattle.pl_cone.specs.Skipped.{skip_causes}
 use Rattle.pl_object.specs.declared.object.Object.{Object}
-use Rattle.pl_cone.specs.declared.run_plan.RunPlan.{RunPlan}
+use Rattle.pl_cone.specs.Plans.{RunPlan}
 use Rattle.pl_rewrite.specs.Changes.{from_scratch, next, numbers}
 use Rattle.pl_rewrite.proofs.SoundLaws.{names_stay, next_is_from_scratch}
 use Rattle.pl_scope.specs.Members.{IsLinked, has, names, others}

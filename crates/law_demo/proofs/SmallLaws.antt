@@ -29,7 +29,7 @@ use Rattle.pl_change.proofs.CacheLemmas.{empty_spelled}
 use Rattle.pl_cache.specs.Spelling.{cache_bytes, is_cache}
 use Rattle.pl_cache.specs.declared.cache.Cache.{Cache}
 use Rattle.pl_cache.proofs.CacheLaws.{read_again}
-use Rattle.pl_cone.specs.Cone.{stamp_after}
+use Rattle.pl_cone.specs.Plans.{stamp_after}
 use Rattle.pl_cone.specs.declared.skip.Skip.{Skip}
 use Rattle.pl_conflict.specs.Format.{format, mark_in, mark_of}
 use Rattle.pl_conflict.proofs.FormatLaws.{read_is}
@@ -45,15 +45,15 @@ use Rattle.pl_form.specs.Files.{marked_in, original_or_file, original_in}
 use Rattle.pl_journal.specs.Names.{journal}
 use Rattle.pl_journal.specs.Rows.{rows_in}
 use Rattle.pl_journal.specs.declared.change.Change.{Change}
-use Rattle.pl_rewrite.specs.Plans.{candidates, greatest, greatest_of, is_candidate, planned, slots, slots_of, stale, stamp_for, standings, walks, wants}
-use Rattle.pl_rewrite.specs.Skips.{skip_causes}
+use Rattle.pl_cone.specs.Plans.{candidates, greatest, greatest_of, is_candidate, planned, slots, slots_of, stale, stamp_for, standings, walks, wants}
+use Rattle.pl_cone.specs.Skipped.{skip_causes}
 use Rattle.pl_object.specs.Reads.{reads}
 use Rattle.pl_object.specs.declared.object.Object.{Object}
-use Rattle.pl_cone.specs.Faults.{of_cone, of_plan}
-use Rattle.pl_cone.specs.Wants.{want_of}
+use Rattle.pl_cone.specs.Faulted.{of_cone, of_plan}
+use Rattle.pl_cone.specs.Plans.{want_of}
 use Rattle.pl_cone.specs.declared.asked.Asked.{Asked}
 use Rattle.pl_cone.specs.declared.fault.PlanningFault.{PlanningFault}
-use Rattle.pl_cone.specs.declared.run_plan.RunPlan.{RunPlan}
+use Rattle.pl_cone.specs.Plans.{RunPlan}
 use Rattle.pl_rewrite.specs.Rewriting.{rewrite, rewritten}
 use Rattle.pl_rewrite.specs.declared.rewriting.Rewritten.{Rewritten}
 use Rattle.pl_share.specs.Disjoint.{disjoint}

@@ -14,8 +14,8 @@ use Rattle.pl_build.specs.declared.kind.FileKind.TheVariants.{Library, Pie, Prog
 use Rattle.pl_build.specs.declared.recipe.Recipe.{Recipe}
 use Rattle.pl_build.specs.File.{made}
 use Rattle.pl_build.specs.LayoutPlan.{plan_of}
-use Rattle.pl_rewrite.specs.Fits.{fit_in}
-use Rattle.pl_rewrite.specs.Skips.{skip_causes}
+use Rattle.pl_cone.specs.Fits.{fit_in}
+use Rattle.pl_cone.specs.Skipped.{skip_causes}
 use Rattle.pl_conflict.specs.Format.{format}
 use Rattle.pl_scope.specs.Members.{has}
 use Rattle.pl_scope.specs.declared.constants.TheConstants.{MAX_MEMBERS}

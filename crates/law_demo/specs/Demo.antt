@@ -7,7 +7,7 @@ use Rattle.pl_conflict.specs.Format.{format}
 use Rattle.pl_demo.specs.Demo.{folder, programs}
 use Rattle.pl_demo.specs.declared.prelinking.TheConstants.{ASKED}
 use Rattle.pl_gen.specs.Set as drawn
-use Rattle.pl_rewrite.specs.Skips.{skip_causes}
+use Rattle.pl_cone.specs.Skipped.{skip_causes}
 use Rattle.pl_scope.specs.Members.{has}
 use Rattle.law_sound.specs.Rule.{is_marked}
 use Rattle.law_demo.specs.Clear.{IsProgram, keeps_off}

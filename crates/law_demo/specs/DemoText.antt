@@ -4,8 +4,8 @@ use Rattle.std.specs.List.{flat_map}
 use Rattle.pl_cli.specs.Demo.{demo_text, lines, load_texts, text_of}
 use Rattle.pl_demo.specs.Demo.{counts, folder, programs}
 use Rattle.pl_gen.specs.Set as drawn
-use Rattle.pl_rewrite.specs.Skips.{skip_causes}
 use Rattle.pl_safe.specs.Ordinary.{ordinary}
+use Rattle.pl_cone.specs.Skipped.{skip_causes}
 use Rattle.pl_words.specs.declared.command.Policy.TheVariants.{Lowest}
 
 -- the text of a load that links the originals of a set's files, at the same places

@@ -19,7 +19,7 @@ use Rattle.pl_form.specs.Marks.{IsFormOf}
 use Rattle.pl_form.specs.declared.file.Marked.{Marked}
 use Rattle.pl_journal.specs.Meaning.{applied}
 use Rattle.pl_journal.specs.declared.change.Change.{Change}
-use Rattle.pl_rewrite.specs.Skips.{skip_causes}
+use Rattle.pl_cone.specs.Skipped.{skip_causes}
 use Rattle.law_sound.specs.Rule.{is_marked, matches}
 use Rattle.pl_words.specs.declared.command.Policy.{Policy}
 use Rattle.law_demo.specs.Clear.{IsProgram, has_free_slots, keeps_off}

@@ -13,8 +13,8 @@ use Rattle.pl_gen.specs.Draws.{after, seeded, words}
 use Rattle.pl_gen.specs.Lines.{library_name, program_name}
 use Rattle.pl_gen.specs.Set as drawn
 use Rattle.pl_journal.specs.declared.change.Change.{Change}
-use Rattle.pl_rewrite.specs.Fits.{fit_in}
-use Rattle.pl_rewrite.specs.Skips.{skip_causes}
+use Rattle.pl_cone.specs.Fits.{fit_in}
+use Rattle.pl_cone.specs.Skipped.{skip_causes}
 use Rattle.law_demo.specs.SetFiles.{HasLibraries, HasProgram}
 use Rattle.law_sound.specs.Plan.{is_candidate}
 use Rattle.law_sound.specs.Rule.{Files}

@@ -29,17 +29,17 @@ use Rattle.pl_form.specs.declared.constants.TheConstants.{STORED}
 use Rattle.pl_form.specs.declared.file.Marked.{Marked}
 use Rattle.pl_form.specs.declared.fault.FormFault.{FormFault}
 use Rattle.pl_form.specs.declared.fault.FormFault.TheVariants as forms
-use Rattle.pl_rewrite.specs.Faults.{fault_by, fault_in, fault_number}
-use Rattle.pl_rewrite.specs.Fits.{fit_in, links}
-use Rattle.pl_rewrite.specs.Plans.{is_candidate, is_current}
-use Rattle.pl_rewrite.specs.Skips.{fault_at, of_refusal, skip_causes, skip_of}
-use Rattle.pl_rewrite.proofs.LinkLaws.{each_read, links_is}
+use Rattle.pl_cone.specs.Faults.{fault_by, fault_in, fault_number}
+use Rattle.pl_cone.specs.Fits.{fit_in, links}
+use Rattle.pl_cone.specs.Plans.{is_candidate, is_current}
+use Rattle.pl_cone.specs.Skipped.{fault_at, of_refusal, skip_causes, skip_of}
+use Rattle.pl_cone.proofs.LinkLaws.{each_read, links_is}
 use Rattle.pl_object.specs.PlaceClauses.{last_load}
 use Rattle.pl_object.specs.Reads.{reads}
 use Rattle.pl_object.specs.declared.object.Object.{Object}
 use Rattle.pl_object.specs.declared.refusal.Refusal.{Refusal}
 use Rattle.pl_object.specs.declared.refusal.Refusal.TheVariants as refusals
-use Rattle.pl_cone.specs.declared.run_plan.RunPlan.{RunPlan}
+use Rattle.pl_cone.specs.Plans.{RunPlan}
 use Rattle.pl_rewrite.specs.Changes.{next}
 use Rattle.pl_rewrite.specs.Reports.{marked_at, report, row_of, state_after, state_by, state_of}
 use Rattle.pl_rewrite.specs.declared.report.Report.{Report}
@@ -62,7 +62,6 @@ use Rattle.pl_tls.specs.declared.fault.TlsFault.{TlsFault}
 use Rattle.pl_tls.specs.declared.fault.TlsFault.TheVariants as tls_faults
 use Rattle.pl_value.specs.Meanings.{meanings}
 use Rattle.pl_value.specs.declared.fault.LinkFault.{LinkFault}
-use Rattle.pl_value.specs.declared.fault.LinkFault.TheVariants as link_faults
 use Rattle.law_folder.specs.Candidates.{HasPlan}
 use Rattle.law_folder.specs.Reported.{ReportsTellNames, SaysPrelinked, SaysTooLong, TellsName}
 use Rattle.law_folder.proofs.CandidateLemmas.{candidates_marked}
@@ -199,10 +198,7 @@ tls_not tls_faults.TooLarge = refl
 tls_not tls_faults.NoMemory = refl
 
 link_not : (ws : Walked) (e : LinkFault) → is_sixth (of_link ws e) ≡ false
-link_not ws (link_faults.Undefined member symbol) = refl
-link_not ws (link_faults.UndefinedTls member symbol) = refl
-link_not ws (link_faults.TlsMismatch member symbol) = refl
-link_not ws (link_faults.CopyOutside member symbol) = refl
+link_not ws e = refl
 
 linked_not : (ws : Walked) → NeverMemory is_sixth (check_links ws)
 unfolding check_links resolved

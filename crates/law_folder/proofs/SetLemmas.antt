@@ -34,7 +34,7 @@ use Rattle.pl_lists.specs.declared.list_row.ListRow.{ListRow}
 use Rattle.pl_object.specs.Reads.{reads}
 use Rattle.pl_object.specs.declared.object.Object.{Object}
 use Rattle.pl_form.specs.Back.{when}
-use Rattle.pl_rewrite.specs.Libraries.{has_valid_name}
+use Rattle.pl_rewrite.specs.Forms.{has_valid_name}
 use Rattle.pl_rewrite.specs.Sources.{AreSources, members, member_names}
 use Rattle.pl_rewrite.proofs.ListLaws.{set_tests}
 use Rattle.pl_rewrite.proofs.ProgramLaws.{stored_small}

@@ -20,7 +20,7 @@ use Rattle.pl_place.specs.Policy.{Choice}
 use Rattle.law_sound.specs.Rule as sound
 use Rattle.law_sound.specs.Rule.{Mark, mark_at, matches, tells_walk, walk_in}
 use Rattle.pl_loader.specs.declared.fault.LoadFault.{LoadFault}
-use Rattle.pl_weave.specs.Given.{first_by, first_of, given_from, given_of}
+use Rattle.pl_loader.specs.Given.{first_by, first_of, given_from, given_of}
 use Rattle.law_loads.specs.LoadingFolder.{first_bytes, loading_folder, of_placing}
 use Rattle.law_loads.specs.Paths.{GivesFrom}
 

@@ -1,13 +1,13 @@
 -- The answers of a weave's loaders.
 use Rattle.std.proofs.Common.{subst}
 use Rattle.pl_conflict.specs.Format.{is_fast}
-use Rattle.pl_rewrite.specs.Skips.{skip_causes}
 use Rattle.law_loads.specs.LoadingFolder.{loading_folder}
+use Rattle.pl_cone.specs.Skipped.{skip_causes}
 use Rattle.law_loads.specs.Paths.{SameAnswer, ordinary_load}
 use Rattle.law_loads.proofs.LoadingFolderLaws.{gives_given, rule_given}
 use Rattle.law_loads.proofs.HistoryLaws.{rule_held}
 use Rattle.law_loads.proofs.ImageLaws.{loads_are_ordinary}
-use Rattle.pl_weave.specs.Given.{given_from}
+use Rattle.pl_loader.specs.Given.{given_from}
 use Rattle.pl_weave.proofs.LedLaws.{finished_are_loads}
 use Rattle.pl_weave.proofs.WovenLaws.{woven_are_led}
 use Rattle.law_loads.specs.Weaves.{WeavesAreOrdinary}

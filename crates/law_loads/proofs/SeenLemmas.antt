@@ -23,7 +23,7 @@ use Rattle.pl_scope.specs.Walk as scope
 use Rattle.pl_scope.specs.Walking.{Walking, wants}
 use Rattle.pl_scope.proofs.NameLaws.{eq_flip, eq_laws, eq_refl, has_flip, same_name}
 use Rattle.pl_scope.proofs.StepLaws.{added_cases, entered_is, grown}
-use Rattle.pl_weave.specs.Given.{given}
+use Rattle.pl_loader.specs.Given.{given}
 use Rattle.pl_weave.specs.Opening.{HasSeen, Leads, LeadsOn, taken_as}
 use Rattle.pl_weave.specs.declared.seen.Seen.{Seen}
 use Rattle.law_loads.specs.Weaves.{AreSeen, SawFile, file_seen}

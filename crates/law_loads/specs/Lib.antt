@@ -4,7 +4,7 @@ pub mod Loads
 pub mod Weaves
 -- the loads and weaves, by which what is here is said
 pub use Rattle.pl_loader.specs.Started
-pub use Rattle.pl_weave.specs.Given
+pub use Rattle.pl_loader.specs.Given
 pub use Rattle.pl_weave.specs.Opening
 pub use Rattle.pl_weave.specs.Runs
 pub use Rattle.pl_weave.specs.Weaving

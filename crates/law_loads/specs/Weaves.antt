@@ -9,7 +9,7 @@ use Rattle.pl_base.specs.Answers.{because}
 use Rattle.pl_conflict.specs.Format.{is_fast}
 use Rattle.law_folder.specs.Sound.{KeepsTheRule}
 use Rattle.law_folder.specs.Steps.{IsPastAll}
-use Rattle.pl_rewrite.specs.Skips.{skip_causes}
+use Rattle.pl_cone.specs.Skipped.{skip_causes}
 use Rattle.pl_loader.specs.declared.fault.LoadFault.{LoadFault}
 use Rattle.law_loads.specs.LoadingFolder.{loading_folder}
 use Rattle.law_loads.specs.Paths.{GivesFrom, SameAnswer, ordinary_load}
@@ -18,7 +18,7 @@ use Rattle.pl_rewrite.specs.History.{Happened}
 use Rattle.pl_script.specs.declared.script.Event.{Event}
 use Rattle.law_sound.specs.History.{Held}
 use Rattle.law_sound.specs.Rule as sound
-use Rattle.pl_weave.specs.Given.{given_from}
+use Rattle.pl_loader.specs.Given.{given_from}
 use Rattle.pl_weave.specs.Opening.{HasSeen, Opened, ended, wanted}
 use Rattle.pl_weave.specs.Weaving.{Weaving, woven}
 use Rattle.pl_weave.specs.declared.seen.Seen.{Seen}

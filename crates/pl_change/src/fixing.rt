@@ -95,7 +95,10 @@ fn fixed_of<F: Fn(&Holes, u64, u64) -> Option<u64>>(
     match fix_placed(alloc, placer, original)? {
         Placing::NotPie => Err(BatchFault::Cause(Cause::NotPie(Text::copy_of(alloc, name)?))),
         Placing::NoPlace => Err(BatchFault::Cause(Cause::NoPlace(Text::copy_of(alloc, name)?))),
-        Placing::Fixed { address, bytes } => Ok(FixedFile { address, bytes }),
+        Placing::Fixed { address, program } => Ok(FixedFile {
+            address,
+            bytes: program.into_bytes(),
+        }),
     }
 }
 

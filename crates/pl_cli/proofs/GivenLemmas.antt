@@ -16,9 +16,9 @@ use Rattle.pl_texts.specs.declared.stop.Stop.TheVariants as stops
 use Rattle.pl_cli.specs.Came.{HasGiven}
 use Rattle.pl_texts.specs.Finds.{HasTaken}
 use Rattle.pl_texts.specs.Files.{file_in}
-use Rattle.pl_weave.specs.Given.{given_from}
+use Rattle.pl_loader.specs.Given.{given_from}
 use Rattle.pl_cli.specs.Load.{given_file, loading_file}
-use Rattle.pl_texts.specs.Stops.{MeansAlone, StopsAlone, items_of, of_load_fault}
+use Rattle.pl_texts.specs.Stops.{MeansAlone, StopsAlone, of_load_fault}
 use Rattle.pl_texts.proofs.CallLemmas.{asked_all}
 use Rattle.pl_cli.proofs.LoadLemmas.{lacks_file}
 use Rattle.pl_texts.proofs.StopLemmas.{stops_as}
@@ -48,10 +48,10 @@ module _ (policy : Policy) (name n : List ℕ) {a b : Seen} where
     not_given stops.InputFailed alone = absurd alone
     not_given stops.NoMemory alone = record { means = tt; reads = refl; fails = λ e. absurd (false≢true e); calls = asked_all _ took.calls }
 
-    was_given : (file : Vec ℕ Global) → given_file policy name n bytes.items ≡ Ok file.items → HasGiven policy name n (Ok file) a b
-    was_given file is = record { means = λ told. given_by (Ok file.items) (took.means told) is; reads = refl; fails = λ e. absurd (false≢true e); calls = took.calls }
+    was_given : (file : List ℕ) → given_file policy name n bytes.items ≡ Ok file → HasGiven policy name n (Ok file) a b
+    was_given file is = record { means = λ told. given_by (Ok file) (took.means told) is; reads = refl; fails = λ e. absurd (false≢true e); calls = took.calls }
 
     -- what came of the bytes is what came of the name
-    pub given_so : (r : Result (Vec ℕ Global) Stop) → MeansAlone (given_file policy name n bytes.items) (items_of r) → HasGiven policy name n r a b
+    pub given_so : (r : Result (List ℕ) Stop) → MeansAlone (given_file policy name n bytes.items) r → HasGiven policy name n r a b
     given_so (Ok file) is = was_given file is
     given_so (Err stop) alone = not_given stop alone

@@ -1,7 +1,6 @@
 -- What `--load` finds, file by file.
 use Rattle.std.proofs.Common.{◌≡◌, ◌<◌, ℕ, ◌+◌, List, Bool, true, false, Option, Some, None, refl, sym, ap, ◌∙◌}
-use Rattle.std.specs.Prelude.{Result, Ok, Err, MatchBool, ⊤, Vec, not, if◌then◌else◌}
-use Rattle.std.specs.declared.alloc.Global.{Global}
+use Rattle.std.specs.Prelude.{Result, Ok, Err, MatchBool, ⊤, not, if◌then◌else◌}
 use Rattle.pl_base.specs.Answers.{unless, because, ◌>>=◌, Answers}
 use Rattle.pl_base.specs.Files.{Files}
 use Rattle.pl_base.specs.Names.{is_valid_name}
@@ -28,7 +27,7 @@ use Rattle.pl_texts.specs.declared.stop.Stop.{Stop}
 use Rattle.pl_texts.specs.declared.stop.Stop.TheVariants as stops
 use Rattle.pl_cli.specs.Came.{HasGiven, HasLoaded}
 use Rattle.pl_texts.specs.Files.{file_in}
-use Rattle.pl_weave.specs.Given.{given_from}
+use Rattle.pl_loader.specs.Given.{given_from}
 use Rattle.pl_cli.specs.Load.{choice, given_file, load_result, loaded_files, loaded_object, loading_file}
 use Rattle.pl_texts.specs.Looks.{stepped, takes}
 use Rattle.pl_texts.specs.Stops.{of_load_fault}
@@ -124,21 +123,21 @@ module _ (policy : Policy) (a : Seen) (name : List ℕ) (valid : is_valid_name n
         (stops_as _ _ _ _ stop (λ cause told lacks. valid_files ∙ load_lacks causes.Load (loading_file policy a.files name) name n l cause is (here (Err cause) lacks told) (way told)) took.means)
         took.reads took.calls
 
-    module _ (bytes : Vec ℕ Global) (took : HasGiven policy name n (Ok bytes) b c) where
-      file_is : a.tells ≡ true → loading_file policy a.files name n ≡ Ok bytes.items
-      file_is = here (Ok bytes.items) took.means
+    module _ (bytes : List ℕ) (took : HasGiven policy name n (Ok bytes) b c) where
+      file_is : a.tells ≡ true → loading_file policy a.files name n ≡ Ok bytes
+      file_is = here (Ok bytes) took.means
 
       -- it was given to the load
-      pub load_goes : (m : Loading) → m.order.given ≡ l.order.given + 1 → give l (Some bytes.items) ≡ Ok m → Calls Done (AllBut (left_from (loaded_object policy a.files name) m.order) (takes (loaded_object policy a.files name) name)) a c
+      pub load_goes : (m : Loading) → m.order.given ≡ l.order.given + 1 → give l (Some bytes) ≡ Ok m → Calls Done (AllBut (left_from (loaded_object policy a.files name) m.order) (takes (loaded_object policy a.files name) name)) a c
       load_goes m more went = goes_on (loaded_object policy a.files name) name valid l.order n is below folder so_far m.order more
-          (λ told. step_goes_on l n bytes.items policy a.files name m is (way told).named (file_is told) went) took.calls
+          (λ told. step_goes_on l n bytes policy a.files name m is (way told).named (file_is told) went) took.calls
 
       -- it is refused, or memory lacked
-      pub stopped_at_file : {F : Type 0} (fault : LoadFault) → Answers is_memory (Err fault) (give l (Some bytes.items)) → HasLoaded {F = F} policy name (Err (of_load_fault fault)) a c
+      pub stopped_at_file : {F : Type 0} (fault : LoadFault) → Answers is_memory (Err fault) (give l (Some bytes)) → HasLoaded {F = F} policy name (Err (of_load_fault fault)) a c
       stopped_at_file {F = F} fault stop =
-          elim (is_memory fault) as (λ m. MatchBool m ⊤ (give l (Some bytes.items) ≡ Err fault) → HasLoaded {F = F} policy name (Err (if m then stops.NoMemory else stops.Cause (causes.Load fault))) a c) [
+          elim (is_memory fault) as (λ m. MatchBool m ⊤ (give l (Some bytes) ≡ Err fault) → HasLoaded {F = F} policy name (Err (if m then stops.NoMemory else stops.Cause (causes.Load fault))) a c) [
             | true ↦ λ _. stopped_here (loaded_object policy a.files name) name valid l.order n is below folder so_far (loaded_files policy a.files name) (λ l. l.walk.files) stops.NoMemory tt tt refl (asked_all _ took.calls)
             | false ↦ λ stopped. stopped_here (loaded_object policy a.files name) name valid l.order n is below folder so_far (loaded_files policy a.files name) (λ l. l.walk.files) (stops.Cause (causes.Load fault))
-                (λ told. step_stops l n bytes.items policy a.files name fault is (way told).named (file_is told) stopped)
-                (λ told. valid_files ∙ load_stops causes.Load (loading_file policy a.files name) name n (Some bytes.items) l fault is (file_is told) stopped (way told)) refl took.calls
+                (λ told. step_stops l n bytes policy a.files name fault is (way told).named (file_is told) stopped)
+                (λ told. valid_files ∙ load_stops causes.Load (loading_file policy a.files name) name n (Some bytes) l fault is (file_is told) stopped (way told)) refl took.calls
           ] stop

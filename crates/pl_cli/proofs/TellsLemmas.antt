@@ -29,7 +29,7 @@ use Rattle.pl_texts.specs.Files.{valid_file, of_file, file_in}
 use Rattle.pl_cli.specs.Load.{choice, is_memory, load_result, loading_file}
 use Rattle.pl_loader.specs.Faults as memory
 use Rattle.pl_place.specs.Policy.{Choice}
-use Rattle.pl_weave.specs.Given.{first_by, first_of, given_from}
+use Rattle.pl_loader.specs.Given.{first_by, first_of, given_from}
 use Rattle.pl_pie.specs.Placed.{placed}
 use Rattle.pl_pie.specs.declared.placing.Placing.{Placing}
 use Rattle.pl_pie.specs.declared.placing.Placing.TheVariants as placings

@@ -67,8 +67,8 @@ Makes (Some (Demo number)) files input status = Asks 0
 -- ---- what is found in the folder
 
 -- the file of a name of the walk of a name that is loaded
-abbrev pub HasGiven : Policy → List ℕ → List ℕ → Result (Vec ℕ Global) Stop → Seen → Seen → Type 0
-HasGiven policy name n result old new = Finds (is_valid_name n) (Asks (count_by is_valid_name (n ∷ []))) (loading_file policy old.files name n) (λ bytes. bytes.items) result old new
+abbrev pub HasGiven : Policy → List ℕ → List ℕ → Result (List ℕ) Stop → Seen → Seen → Type 0
+HasGiven policy name n result old new = Finds (is_valid_name n) (Asks (count_by is_valid_name (n ∷ []))) (loading_file policy old.files name n) (λ file. file) result old new
 
 -- the files of a load
 abbrev pub HasLoaded : {F : Type 0} → Policy → List ℕ → Result (loading.Load F) Stop → Seen → Seen → Type 0

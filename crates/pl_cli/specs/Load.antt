@@ -15,11 +15,11 @@ use Rattle.pl_loader.specs.Loading as loading
 use Rattle.pl_loader.specs.Started.{Start, load, started}
 use Rattle.pl_loader.specs.Walk as walk
 use Rattle.pl_loader.specs.declared.object_file.ObjectFile.{ObjectFile}
-use Rattle.pl_weave.specs.Given.{given_from, given_of}
 use Rattle.pl_texts.specs.Files.{file_in}
 use Rattle.pl_texts.specs.Looks.{ObjectOf}
 use Rattle.pl_texts.specs.declared.cause.Cause.{Cause}
 use Rattle.pl_texts.specs.declared.cause.Cause.TheVariants as causes
+use Rattle.pl_loader.specs.Given.{given_from, given_of}
 
 -- a policy as a function of holes, a span and an alignment
 abbrev pub choice : Policy → Choice

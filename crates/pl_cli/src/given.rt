@@ -2,13 +2,13 @@
 ghost use Rattle.std.specs.Prelude.{◌<◌, ◌^◌, IfOk, length};
 ghost use Rattle.pl_cli.specs.Came.{HasGiven};
 ghost use Rattle.pl_cli.specs.Load as spec;
-ghost use Rattle.pl_texts.specs.Stops.{MeansAlone, items_of};
+ghost use Rattle.pl_texts.specs.Stops.{MeansAlone};
 
 use crate::chosen::chosen;
 use pl_folder::Folder;
+use pl_loader::{GivenFile, given_file};
 use pl_place::{Holes, Placer};
 use pl_texts::{Stop, take};
-use pl_weave::given_file;
 use pl_words::Policy;
 use std::alloc::Global;
 
@@ -19,11 +19,10 @@ fn given_at(
     wanted: &str,
     bytes: Vec<u8>,
     asked: Policy,
-) -> Result<Vec<u8>, Stop>
+) -> Result<GivenFile, Stop>
     requires { length bytes.items < 2 ^ 32 }
-    ensures means { MeansAlone (spec.given_file asked name.now wanted.now bytes.items)
-        (items_of result) }
-    ensures size { IfOk result (λ file. length file.items < 2 ^ 32) }
+    ensures means { MeansAlone (spec.given_file asked name.now wanted.now bytes.items) result }
+    ensures size { IfOk result (λ file. length file < 2 ^ 32) }
 {
     let placer = Placer::new(|holes: &Holes, span: u64, align: u64| chosen(
         asked, holes, span, align,
@@ -38,10 +37,10 @@ pub fn given<D: Folder>(
     name: &str,
     wanted: &str,
     asked: Policy,
-) -> Result<Vec<u8>, Stop>
+) -> Result<GivenFile, Stop>
     ensures given { HasGiven asked name.now wanted.now result
         (D.seen folder.old) (D.seen folder.new) }
-    ensures size { IfOk result (λ bytes. length bytes.items < 2 ^ 32) }
+    ensures size { IfOk result (λ file. length file < 2 ^ 32) }
 {
     let bytes = take(alloc, folder, wanted)?;
     given_at(alloc, name, wanted, bytes, asked)

@@ -35,8 +35,8 @@ pub fn load<'p, D: Folder, F>(
     }
     let mut loader = Loader::new(alloc, name, busy, placer)?;
     while let Some(wanted) = loader.wants() {
-        let bytes = given(alloc, folder, name, wanted, asked)?;
-        loader.give(alloc, Some(bytes))?;
+        let file = given(alloc, folder, name, wanted, asked)?;
+        loader.give(alloc, Some(file))?;
     }
     Ok(loader)
 }

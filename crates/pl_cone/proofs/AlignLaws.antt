@@ -1,7 +1,8 @@
--- The alignment of accepted objects.
-use Rattle.std.proofs.Common.{◌≡◌, ℕ, ◌<◌, List, [], ◌∷◌, refl, arith}
+-- The alignment of accepted objects, and the span of accepted libraries.
+use Rattle.std.proofs.Common.{◌≡◌, ℕ, ◌<◌, true, List, [], ◌∷◌, refl, arith}
 use Rattle.std.specs.Prelude.{fold, max}
 use Rattle.pl_elf.specs.Headers.{loads}
+use Rattle.pl_elf.specs.Kinds.{is_library}
 use Rattle.pl_elf.specs.declared.constants.TheConstants.{PAGE}
 use Rattle.pl_elf.specs.declared.segment.Segment.{Segment}
 use Rattle.pl_object.specs.Reads.{align}
@@ -21,3 +22,6 @@ unfolding align
 aligned o is =
     let facts = accepted is.bytes o is.read in
     rw facts.align (above PAGE (loads o.segments) (omega (arith, page_is)))
+
+pub spanned : (o : Object) → IsAccepted o → is_library o.kind ≡ true → 0 < o.span
+spanned o is library = (accepted is.bytes o is.read).some library

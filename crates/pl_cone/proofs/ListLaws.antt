@@ -1,54 +1,68 @@
--- A list that tells members, row by row.
-use Rattle.std.proofs.Common.{◌≡◌, ℕ, suc, ◌+◌, ◌<◌, ◌≤◌, Bool, true, false, List, [], ◌∷◌, length, drop, get_or, refl, sym, ap, ◌∙◌}
-use Rattle.std.specs.Prelude.{◌≢◌, ◌&&◌, map}
-use Rattle.std.proofs.lemmas.List.{at_drop_more, at_drop_all}
-use Rattle.pl_lists.specs.declared.list_row.ListRow.{ListRow}
-use Rattle.pl_scope.specs.declared.member.Member.{Member}
-use Rattle.pl_cone.specs.Current.{is_row, lists_members}
-use Rattle.pl_cone.specs.Known.{mark_of}
-use Rattle.pl_cone.specs.declared.known.Known.{Known}
+-- What functions that agree give of lists.
+use Rattle.std.proofs.Common.{◌≡◌, ℕ, ◌+◌, ◌<◌, ◌≤◌, Bool, true, false, List, [], ◌∷◌, ◌++◌, length, drop, get_or, Option, Some, None, refl, sym, ap, ◌∙◌, append_assoc}
+use Rattle.std.specs.Prelude.{◌&&◌, find, map, fold, max, if◌then◌else◌}
+use Rattle.std.specs.List.{All, filter_map, cons_option, list_all}
+use Rattle.std.proofs.lemmas.List.{append-nil, at_drop_more, at_drop_all}
+use Rattle.std.proofs.lemmas.List.Elements.{All-head, All-tail}
 
--- what is left of both
-abbrev pub tells_from : List Known → List ListRow → List Member → ℕ → Bool
-tells_from files rs ms i = lists_members files (drop i rs) (map (λ m. m.name) (drop i ms))
+pub map_same : {A B : Type 0} (g h : A → B) → ((x : A) → g x ≡ h x) → (xs : List A) → map g xs ≡ map h xs
+map_same g h same [] = refl
+map_same {B = B} g h same (x ∷ xs) = ap (λ (y : B). y ∷ map g xs) (same x) ∙ ap (λ (ys : List B). h x ∷ ys) (map_same g h same xs)
 
-tells_step : (files : List Known) (rs : List ListRow) (ms : List Member) (i : ℕ) (r : ListRow) (m : Member) → i < length rs → i < length ms → r ≡ get_or rs i r → m ≡ get_or ms i m
-    → tells_from files rs ms i ≡ (is_row m.name (mark_of files m.name) r && tells_from files rs ms (i + 1))
-unfolding lists_members
-tells_step files rs ms i r m in_rows in_members row member =
-    at_drop_more (λ (zs : List ListRow). lists_members files zs (map (λ (x : Member). x.name) (drop i ms))) rs i r in_rows
-    ∙ (at_drop_more (λ (ys : List Member). lists_members files (get_or rs i r ∷ drop (i + 1) rs) (map (λ (x : Member). x.name) ys)) ms i m in_members
-    ∙ rw (← row, ← member) refl)
+pub fold_same : {A : Type 0} (g h : A → ℕ) (xs : List A) (last : ℕ) → All (λ x. g x ≡ h x) xs → fold (λ most x. max most (g x)) last xs ≡ fold (λ most x. max most (h x)) last xs
+fold_same g h [] last same = refl
+fold_same {A = A} g h (x ∷ xs) last same =
+    ap (λ (k : ℕ). fold (λ most y. max most (g y)) (max last k) xs) (All-head (λ (y : A). g y ≡ h y) x xs same)
+    ∙ fold_same g h xs (max last (h x)) (All-tail (λ (y : A). g y ≡ h y) x xs same)
 
--- a row that tells its member
-pub tells_more : (files : List Known) (rs : List ListRow) (ms : List Member) (i : ℕ) (r : ListRow) (m : Member) (whole : Bool) → i < length rs → i < length ms → r ≡ get_or rs i r → m ≡ get_or ms i m
-    → is_row m.name (mark_of files m.name) r ≡ true → tells_from files rs ms i ≡ whole → tells_from files rs ms (i + 1) ≡ whole
-tells_more files rs ms i r m whole in_rows in_members row member passes so_far =
-    sym (tells_step files rs ms i r m in_rows in_members row member ∙ ap (λ (b : Bool). b && tells_from files rs ms (i + 1)) passes) ∙ so_far
+-- ---- a test of all rows
+
+step_all : {A : Type 0} (q : A → Bool) (xs : List A) (i : ℕ) (d : A) → i < length xs → list_all q (drop i xs) ≡ (q (get_or xs i d) && list_all q (drop (i + 1) xs))
+step_all q xs i d lt = at_drop_more (list_all q) xs i d lt
+
+-- a row that passes
+pub all_more : {A : Type 0} (q : A → Bool) (xs : List A) (i : ℕ) (d : A) (whole : Bool) → i < length xs → q (get_or xs i d) ≡ true → list_all q (drop i xs) ≡ whole → list_all q (drop (i + 1) xs) ≡ whole
+all_more q xs i d whole lt passes so_far = sym (step_all q xs i d lt ∙ ap (λ (b : Bool). b && list_all q (drop (i + 1) xs)) passes) ∙ so_far
 
 -- a row that does not
-pub tells_fails : (files : List Known) (rs : List ListRow) (ms : List Member) (i : ℕ) (r : ListRow) (m : Member) (whole : Bool) → i < length rs → i < length ms → r ≡ get_or rs i r → m ≡ get_or ms i m
-    → is_row m.name (mark_of files m.name) r ≡ false → tells_from files rs ms i ≡ whole → whole ≡ false
-tells_fails files rs ms i r m whole in_rows in_members row member fails so_far =
-    sym so_far ∙ (tells_step files rs ms i r m in_rows in_members row member ∙ ap (λ (b : Bool). b && tells_from files rs ms (i + 1)) fails)
+pub all_fails : {A : Type 0} (q : A → Bool) (xs : List A) (i : ℕ) (d : A) (whole : Bool) → i < length xs → q (get_or xs i d) ≡ false → list_all q (drop i xs) ≡ whole → whole ≡ false
+all_fails q xs i d whole lt fails so_far = sym so_far ∙ (step_all q xs i d lt ∙ ap (λ (b : Bool). b && list_all q (drop (i + 1) xs)) fails)
 
--- behind the last row
-pub tells_done : (files : List Known) (rs : List ListRow) (ms : List Member) (i : ℕ) (whole : Bool) → length rs ≤ i → length ms ≤ i → tells_from files rs ms i ≡ whole → whole ≡ true
-unfolding lists_members
-tells_done files rs ms i whole past_rows past_members so_far =
-    sym so_far ∙ (at_drop_all (λ (zs : List ListRow). lists_members files zs (map (λ (x : Member). x.name) (drop i ms))) rs i past_rows
-    ∙ at_drop_all (λ (ys : List Member). lists_members files [] (map (λ (x : Member). x.name) ys)) ms i past_members)
+-- ---- an item that is sought
 
--- more or fewer rows than members
-pub tells_none : (files : List Known) (rs : List ListRow) (ms : List Member) → length rs ≢ length ms → lists_members files rs (map (λ m. m.name) ms) ≡ false
-unfolding lists_members
-tells_none files [] [] differs = absurd (differs refl)
-tells_none files [] (m ∷ ms) differs = refl
-tells_none files (r ∷ rs) [] differs = refl
-tells_none files (r ∷ rs) (m ∷ ms) differs =
-    let fewer : length rs ≢ length ms = λ same. differs (ap (λ (k : ℕ). suc k) same) in
-    ap (λ (b : Bool). is_row m.name (mark_of files m.name) r && b) (tells_none files rs ms fewer) ∙ off (is_row m.name (mark_of files m.name) r)
-  where
-    off : (b : Bool) → (b && false) ≡ false
-    off true = refl
-    off false = refl
+find_step : {A B : Type 0} (q : A → Bool) (k : Option A → B) (xs : List A) (i : ℕ) (x : A) → i < length xs → x ≡ get_or xs i x → k (find q (drop i xs)) ≡ k (if q x then Some x else find q (drop (i + 1) xs))
+find_step q k xs i x lt is = at_drop_more (λ (ys : List _). k (find q ys)) xs i x lt ∙ rw (← is) refl
+
+pub find_here : {A B : Type 0} (q : A → Bool) (k : Option A → B) (xs : List A) (i : ℕ) (x : A) (whole : B) → i < length xs → x ≡ get_or xs i x → q x ≡ true → k (find q (drop i xs)) ≡ whole → k (Some x) ≡ whole
+find_here {A = A} q k xs i x whole lt is hit so_far = sym (find_step q k xs i x lt is ∙ ap (λ (b : Bool). k (if b then Some x else find q (drop (i + 1) xs))) hit) ∙ so_far
+
+pub find_past : {A B : Type 0} (q : A → Bool) (k : Option A → B) (xs : List A) (i : ℕ) (x : A) (whole : B) → i < length xs → x ≡ get_or xs i x → q x ≡ false → k (find q (drop i xs)) ≡ whole → k (find q (drop (i + 1) xs)) ≡ whole
+find_past q k xs i x whole lt is miss so_far = sym (find_step q k xs i x lt is ∙ ap (λ (b : Bool). k (if b then Some x else find q (drop (i + 1) xs))) miss) ∙ so_far
+
+pub find_done : {A B : Type 0} (q : A → Bool) (k : Option A → B) (xs : List A) (i : ℕ) (whole : B) → length xs ≤ i → k (find q (drop i xs)) ≡ whole → k None ≡ whole
+find_done q k xs i whole le so_far = sym (at_drop_all (λ (ys : List _). k (find q ys)) xs i le) ∙ so_far
+
+-- ---- what is made of rows
+
+made_step : {A B : Type 0} (h : A → Option B) (xs : List A) (i : ℕ) (d : A) → i < length xs → filter_map h (drop i xs) ≡ cons_option (h (get_or xs i d)) (filter_map h (drop (i + 1) xs))
+made_step h xs i d lt = at_drop_more (filter_map h) xs i d lt
+
+join_option : {B : Type 0} (o : Option B) (front rest : List B) → (front ++ cons_option o []) ++ rest ≡ front ++ cons_option o rest
+join_option None front rest = ap (λ (z : List _). z ++ rest) (append-nil front)
+join_option (Some y) front rest = append_assoc front (y ∷ []) rest
+
+pub made_more : {A B : Type 0} (h : A → Option B) (xs : List A) (i : ℕ) (d : A) (front new whole : List B) (o : Option B) → i < length xs → o ≡ h (get_or xs i d) → new ≡ front ++ cons_option o [] → front ++ filter_map h (drop i xs) ≡ whole → new ++ filter_map h (drop (i + 1) xs) ≡ whole
+made_more {B = B} h xs i d front new whole o lt is more so_far =
+    let rest : List B = filter_map h (drop (i + 1) xs) in
+    ap (λ (z : List B). z ++ rest) more
+    ∙ (join_option o front rest
+    ∙ (ap (λ (p : Option B). front ++ cons_option p rest) is
+    ∙ (ap (λ (z : List B). front ++ z) (sym (made_step h xs i d lt)) ∙ so_far)))
+
+pub all_same : {A : Type 0} (p q : A → Bool) → ((x : A) → p x ≡ q x) → (xs : List A) → list_all p xs ≡ list_all q xs
+all_same p q same [] = refl
+all_same {A = A} p q same (x ∷ xs) = ap (λ (b : Bool). b && list_all p xs) (same x) ∙ ap (λ (b : Bool). q x && b) (all_same p q same xs)
+
+pub off : (b : Bool) → (b && false) ≡ false
+off true = refl
+off false = refl

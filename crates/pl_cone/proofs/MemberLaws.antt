@@ -1,26 +1,15 @@
--- The members of a walk, by their names.
-use Rattle.std.proofs.Common.{◌≡◌, ℕ, ◌<◌, ◌≤◌, ◌^◌, List, [], ◌∷◌, Option, length, refl, ap, arith}
-use Rattle.std.specs.Prelude.{map, slice_get}
-use Rattle.std.specs.Option.{option_map}
+-- The thread-local storage of the members of a walk.
+use Rattle.std.proofs.Common.{◌≡◌, ◌<◌, ◌≤◌, ◌^◌, List, [], ◌∷◌, Option, length, refl, ap, arith}
+use Rattle.std.specs.Prelude.{map}
 use Rattle.std.proofs.lemmas.List.{length-map}
-use Rattle.std.proofs.lemmas.Option.{slice_get-map}
 use Rattle.pl_scope.proofs.MemberLaws.{length_walked, length_objects}
 use Rattle.pl_scope.proofs.WalkedLaws.{limit_is}
-use Rattle.pl_scope.specs.Members.{names}
 use Rattle.pl_scope.specs.Scope.{walked, objects, IsScope}
 use Rattle.pl_scope.specs.Walk.{Walked}
 use Rattle.pl_scope.specs.declared.constants.TheConstants.{MAX_MEMBERS}
 use Rattle.pl_scope.specs.declared.member.Member.{Member}
 use Rattle.pl_tls.specs.declared.block.Block.{Block}
 use Rattle.pl_cone.specs.Candidates.{blocks}
-
-pub names_walked : (ms : List Member) → names (walked ms) ≡ map (λ m. m.name) ms
-names_walked [] = refl
-names_walked (m ∷ ms) = ap (λ (ns : List (List ℕ)). m.name ∷ ns) (names_walked ms)
-
--- the member of an index
-pub member_at : (ms : List Member) (i : ℕ) → slice_get (walked ms) i ≡ option_map (λ m. (m.name, m.object.now)) (slice_get ms i)
-member_at ms i = slice_get-map (λ (m : Member). (m.name, m.object.now)) ms i
 
 -- their thread-local storage
 pub blocks_are : (ms : List Member) → map (λ m. m.object.now.tls) ms ≡ blocks (walked ms)

@@ -14,6 +14,7 @@ use Rattle.pl_scope.specs.Matching.{matching}
 use Rattle.pl_scope.specs.Members.{names, has}
 use Rattle.pl_scope.specs.Scope.{objects}
 use Rattle.pl_scope.specs.Walk.{Walked}
+use Rattle.pl_scope.specs.declared.index.Entry.{Entry}
 use Rattle.pl_scope.specs.declared.found.Found.{Found}
 use Rattle.pl_scope.specs.declared.reference.Reference.{Reference}
 use Rattle.pl_scope.proofs.FoundLaws.{member_is, Defines, member_defines}
@@ -189,7 +190,7 @@ module _ (folder : List ℕ → Option Object) (n : List ℕ) (v : Walked) (symb
   everywhere = elim (cases_Bool (binds_itself s)) [ inl binds ↦ itself binds | inr other ↦ by_search other ]
 
 -- what is settled by one scope of a folder is so in every one
-pub settled : (folder : List ℕ → Option Object) (definers : List ℕ) (n : List ℕ) (v : Walked) (symbol kind : ℕ) (known : FindsOneSymbolBy definers (objects v) (reference 0 symbol kind)) (file : List ℕ)
+pub settled : (folder : List ℕ → Option Object) (definers : List Entry) (n : List ℕ) (v : Walked) (symbol kind : ℕ) (known : FindsOneSymbolBy definers (objects v) (reference 0 symbol kind)) (file : List ℕ)
     → HasHashes folder definers → IsMadeOf folder v → IsMember v 0 n → (kind == R_X86_64_COPY) ≡ false → IsMember v known.found.member file → FindsOneSymbol folder n symbol kind file known.found.symbol
 settled folder definers n v symbol kind known file hashes of_v first plain is =
     let own = own_is (objects v) (reference 0 symbol kind) known.single.symbol known.single.own in

@@ -1,4 +1,4 @@
--- A closed relocation gives one word in every scope that holds the members of its own walk.
+-- A relocation of one word gives it in every scope that holds the members of its own walk.
 use Rattle.std.proofs.Common.{◌≡◌, ℕ, true, false, List, Option, Some, Ok, refl, ap, ◌∙◌, inl, inr}
 use Rattle.std.specs.Prelude.{◌⊎◌, ◌==◌, ◌||◌, slice_get, if◌then◌else◌}
 use Rattle.std.proofs.lemmas.Bool.{cases_Bool, eqb-true}
@@ -9,6 +9,7 @@ use Rattle.pl_object.specs.declared.reloc.Reloc.{Reloc}
 use Rattle.pl_scope.specs.Finds.{finds}
 use Rattle.pl_scope.specs.Scope.{objects}
 use Rattle.pl_scope.specs.Walk.{Walked}
+use Rattle.pl_scope.specs.declared.index.Entry.{Entry}
 use Rattle.pl_scope.specs.declared.reference.Reference.{Reference}
 use Rattle.pl_scope.proofs.NameLaws.{or_cases}
 use Rattle.pl_sym.specs.Symbol.{is_absolute, is_tls}
@@ -106,7 +107,7 @@ target_is os places m r k i o s at file some found there own plain placed =
 
 -- ---- the whole
 
-module _ (folder : List ℕ → Option Object) (definers : List ℕ) (n : List ℕ) (own : Walked) (r : Reloc) (is : IsOwn folder definers n own) where
+module _ (folder : List ℕ → Option Object) (definers : List Entry) (n : List ℕ) (own : Walked) (r : Reloc) (is : IsOwn folder definers n own) where
   without : is_without_symbol r.kind ≡ true → GivesOneWord folder n own r
   unfolding is_without_symbol
   without kind = elim (or_cases (r.kind == R_X86_64_RELATIVE) (r.kind == R_X86_64_NONE) kind) [

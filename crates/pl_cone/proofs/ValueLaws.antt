@@ -24,16 +24,8 @@ pub row_past : (f : Row → Result Meaning LinkFault) (member : ℕ) (rs : List 
 row_past f member rs i d g whole lt h so_far =
     step_past f (map (row member) rs) i (row member d) g (λ gs. Ok tt) whole (omega (arith, lt, length-map rs (row member))) (ap f (get_or-map (row member) rs i d (row member d) lt) ∙ h) (λ ys. refl) so_far
 
--- one of which a flag tells it; there is one at least
-pub row_told : (f : Row → Result Meaning LinkFault) (member : ℕ) (rs : List Reloc) (i : ℕ) (whole : Result (Unit {0}) LinkFault) → i < length rs → ((d : Reloc) → (g : Meaning) × (f (row member (get_or rs i d)) ≡ Ok g))
-    → each_has f (drop i (map (row member) rs)) ≡ whole → each_has f (drop (i + 1) (map (row member) rs)) ≡ whole
-row_told f member [] i whole lt told so_far = absurd (omega (arith, lt))
-row_told f member (r ∷ rs) i whole lt told so_far =
-    let v = told r in
-    row_past f member (r ∷ rs) i r v.0 whole lt v.1 so_far
-
 -- one that was looked up
-link_ok : (r : Result Meaning LinkFault) → done r ≡ Ok tt → (g : Meaning) × (r ≡ Ok g)
+pub link_ok : (r : Result Meaning LinkFault) → done r ≡ Ok tt → (g : Meaning) × (r ≡ Ok g)
 link_ok (Ok g) e = (g, refl)
 link_ok (Err fault) e = absurd cc
 
@@ -78,14 +70,14 @@ front_same : (front : List Meaning) (r : Result (List Meaning) LinkFault) → do
 front_same front (Ok gs) = refl
 front_same front (Err fault) = refl
 
-have_more : (f : Row → Result Meaning LinkFault) (xs ys : List Row) → each_has f xs ≡ Ok tt → each_has f (xs ++ ys) ≡ each_has f ys
+pub have_more : (f : Row → Result Meaning LinkFault) (xs ys : List Row) → each_has f xs ≡ Ok tt → each_has f (xs ++ ys) ≡ each_has f ys
 have_more f xs ys h =
     let p = each_ok (each f xs) h in
     let whole : each f (xs ++ ys) ≡ with_front p.0 (each f ys) =
     sym (front_nothing (each f (xs ++ ys))) ∙ front_more f xs ys [] p.0 (front_nothing (each f xs) ∙ p.1) in
     ap (λ (r : Result (List Meaning) LinkFault). done r) whole ∙ front_same p.0 (each f ys)
 
-have_stops : (f : Row → Result Meaning LinkFault) (xs ys : List Row) (fault : LinkFault) → ◌≡◌ {A = Result (Unit {0}) LinkFault} (each_has f xs) (Err fault) → each_has f (xs ++ ys) ≡ Err fault
+pub have_stops : (f : Row → Result Meaning LinkFault) (xs ys : List Row) (fault : LinkFault) → ◌≡◌ {A = Result (Unit {0}) LinkFault} (each_has f xs) (Err fault) → each_has f (xs ++ ys) ≡ Err fault
 have_stops f xs ys fault h =
     let stop : each f (xs ++ ys) ≡ Err fault = sym (front_nothing (each f (xs ++ ys))) ∙ front_stops f xs ys [] fault (front_nothing (each f xs) ∙ each_err (each f xs) fault h) in
     ap (λ (r : Result (List Meaning) LinkFault). done r) stop

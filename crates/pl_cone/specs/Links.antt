@@ -1,93 +1,144 @@
--- Which relocations of libraries are known to have a value in every walk.
-use Rattle.std.specs.Prelude.{◌≡◌, ℕ, ◌<◌, Bool, true, false, List, Option, Some, None, Result, Ok, find, length, slice_get, slice_index_or}
-use Rattle.std.specs.List.{AllZip, filter_map}
-use Rattle.std.specs.Option.{option_map}
-use Rattle.std.specs.Str.{bytes_eq}
-use Rattle.pl_base.specs.Answers.{◌>>=◌}
+-- What the relocations of a walk find, and whether each has a value.
+use Rattle.std.specs.Prelude.{◌≡◌, ◌<◌, ℕ, List, [], map, drop, length, slice_get, slice_index_or, Option, Some, None, Result, Ok, Err}
+use Rattle.std.specs.List.{All}
+use Rattle.pl_base.specs.Answers.{◌>>=◌, Answers, because}
 use Rattle.pl_base.specs.Each.{each}
-use Rattle.pl_elf.specs.Kinds.{is_library}
-use Rattle.pl_cone.specs.OneWord.{IsFlag}
-use Rattle.pl_cone.specs.Definers.{HasHashes}
+use Rattle.pl_cone.specs.Candidates.{blocks, check_links, of_link, zeros}
+use Rattle.pl_cone.specs.OneWord.{GivesOneWordBy}
+use Rattle.pl_cone.specs.Skips.{skip_is_memory}
+use Rattle.pl_conflict.specs.Between.{HoldsBetween}
+use Rattle.pl_conflict.specs.Own.{FindAll}
+use Rattle.pl_cone.specs.declared.link.Link.{Link}
+use Rattle.pl_cone.specs.declared.skip.Skip.{Skip}
+use Rattle.pl_cone.specs.declared.skip.Skip.TheVariants as skips
+use Rattle.pl_cone.specs.declared.values.WalkLinking.{WalkLinking}
 use Rattle.pl_object.specs.declared.object.Object.{Object}
 use Rattle.pl_object.specs.declared.reloc.Reloc.{Reloc}
+use Rattle.pl_scope.specs.Folder.{IsIndexAmong}
 use Rattle.pl_scope.specs.Scope.{objects}
 use Rattle.pl_scope.specs.Walk.{Walked}
-use Rattle.pl_scope.specs.declared.member.Member.{Member}
-use Rattle.pl_tls.specs.declared.module.Module.{Module}
-use Rattle.pl_value.specs.Meanings.{Row, meaning, meanings, row}
+use Rattle.pl_scope.specs.declared.found.Found.{Found}
+use Rattle.pl_scope.specs.declared.index.Entry.{Entry}
+use Rattle.pl_tls.specs.Layout.{offsets}
+use Rattle.pl_value.specs.Meanings.{Row, meaning, meanings, row, rows_from}
 use Rattle.pl_value.specs.Values.{relocations_in}
 use Rattle.pl_value.specs.declared.fault.LinkFault.{LinkFault}
+use Rattle.pl_value.specs.declared.fault.OrdinaryFault.{OrdinaryFault}
+use Rattle.pl_value.specs.declared.fault.OrdinaryFault.TheVariants as ordinary
 use Rattle.pl_value.specs.declared.meaning.Meaning.{Meaning}
-use Rattle.pl_cone.specs.Candidates.{walk_in, zeros}
-use Rattle.pl_cone.specs.Known.{entry_of, original_in}
-use Rattle.pl_cone.specs.declared.known.Known.{Known}
-use Rattle.pl_cone.specs.declared.known.Original.{Original}
-use Rattle.pl_cone.specs.declared.links.Link.{Link}
 
--- ---- what is known of libraries
+-- ---- what is kept of a file
 
-abbrev pub its_object : Original → Object
-its_object o = o.object.now
+abbrev pub GivesOneWordOf : List Entry → List Object → List Reloc → ℕ → Type 0
+GivesOneWordOf definers own relocs i = (d : Reloc) → GivesOneWordBy definers own (slice_index_or relocs i d)
 
--- the object of a name, if it has one
-abbrev pub folder : List Known → List ℕ → Option Object
-folder files n = option_map its_object (original_in (entry_of files n))
+-- the indexes of the remaining ones, in their order; each other is of one word
+abbrev pub AreRemaining : List Entry → List Object → List Reloc → List ℕ → Type 0
+AreRemaining definers own relocs remaining = HoldsBetween (GivesOneWordOf definers own relocs) (length relocs) 0 remaining
 
--- a file's name with its object
-abbrev pub named_object : Known → Option (List ℕ × Object)
-named_object k = option_map (λ o. (k.name.now, its_object o)) (original_in (Some k.entry))
+-- the number of a relocation, or none where a fact holds of it
+abbrev pub IsRemainingNumber : Type 0 → ℕ → Option ℕ → Type 0
+IsRemainingNumber GivesOne number None = GivesOne
+IsRemainingNumber GivesOne number (Some n) = n ≡ number
 
--- a member with its object
-abbrev pub named : Option Member → Option (List ℕ × Object)
-named m = option_map (λ x. (x.name, x.object.now)) m
+-- what the own relocations of a library find by its walk, and which remain
+pub record IsLinkOf (definers : List Entry) (own : Walked) (l : Link) : Type 0 where
+  pub found : FindAll (objects own) l.found
+  pub remaining : AreRemaining definers (objects own) (relocations_in (slice_get (objects own) 0)) l.remaining
 
--- the names of files that have objects, with these
-abbrev pub named_objects : List Known → Walked
-named_objects files = filter_map named_object files
+-- ---- a program's walk that is linked
 
-abbrev pub is_library_of : Option Original → Bool
-is_library_of None = false
-is_library_of (Some o) = is_library o.object.now.kind
+abbrev pub objects_of : WalkLinking → List Object
+objects_of l = objects l.scope.now
 
-abbrev pub is_library_known : Known → Bool
-is_library_known k = is_library_of (original_in (Some k.entry))
-
--- flags for the relocations of a library, by its own walk and by what the objects of the folder define
-pub record IsLink (files : List Known) (l : Link) : Type 0 where
-  pub definers : List ℕ
-  pub hashes : HasHashes (folder files) definers
-  pub own : Walked
-  pub walks : walk_in files l.name ≡ Ok own
-  pub flags : AllZip (IsFlag definers (objects own)) (relocations_in (slice_get (objects own) 0)) l.one_word
-
--- ---- in one scope
+-- there is a place for each member, and the index tells of them
+pub record IsLinking (l : WalkLinking) : Type 0 where
+  pub one_each : length l.places.now ≡ length l.scope.now
+  pub index : IsIndexAmong (objects_of l) l.among
 
 -- that there is a value, or the refusal
 abbrev pub done : {X : Type 0} → Result X LinkFault → Result (Unit {0}) LinkFault
 done r = r >>= λ x. Ok tt
 
-abbrev pub row_has : List Object → List ℕ → List Module → Row → Result (Unit {0}) LinkFault
-row_has os places modules x = done (meaning os places modules x)
+abbrev pub meaning_in : WalkLinking → Row → Result Meaning LinkFault
+meaning_in l x = meaning (objects_of l) l.places.now l.modules.now x
 
-abbrev pub rows_have : List Object → List ℕ → List Module → List Row → Result (Unit {0}) LinkFault
-rows_have os places modules xs = done (each (meaning os places modules) xs)
+abbrev pub row_has_in : WalkLinking → Row → Result (Unit {0}) LinkFault
+row_has_in l x = done (meaning_in l x)
 
-abbrev pub all_have : List Object → List ℕ → List Module → Result (Unit {0}) LinkFault
-all_have os places modules = done (meanings os places modules)
+abbrev pub rows_have_in : WalkLinking → List Row → Result (Unit {0}) LinkFault
+rows_have_in l xs = done (each (meaning_in l) xs)
 
-abbrev pub HasValue : List Object → List ℕ → List Module → ℕ → Reloc → Type 0
-HasValue os places modules member r = (g : Meaning) × (meaning os places modules (row member r) ≡ Ok g)
+abbrev pub all_have_in : WalkLinking → Result (Unit {0}) LinkFault
+all_have_in l = done (meanings (objects_of l) l.places.now l.modules.now)
 
--- the flag of an index is set
-abbrev pub IsFlagged : Option Link → ℕ → Type 0
-IsFlagged None index = ⊥
-IsFlagged (Some l) index = slice_get l.one_word index ≡ Some true
+-- the relocations of the first member, and those of the others
+abbrev pub first_rows : WalkLinking → List Row
+first_rows l = map (row 0) (relocations_in (slice_get (objects_of l) 0))
 
--- the relocations of a member whose flags are set have values
-abbrev pub TellsOf : List Object → List ℕ → List Module → ℕ → List Reloc → Option Link → Type 0
-TellsOf os places modules member rs link = (i : ℕ) (d : Reloc) → i < length rs → IsFlagged link i → HasValue os places modules member (slice_index_or rs i d)
+abbrev pub other_rows : WalkLinking → List Row
+other_rows l = rows_from 1 (drop 1 (objects_of l))
 
--- so do those of all members
-abbrev pub HaveValuesAtZero : Walked → List Link → Type 0
-HaveValuesAtZero walked links = (m : ℕ) (n : List ℕ) (o : Object) (modules : List Module) → slice_get walked m ≡ Some (n, o)
-    → TellsOf (objects walked) (zeros walked) modules m o.relocations (find (λ l. bytes_eq l.name n) links)
+-- those of the members after the first have values, or the first refusal
+abbrev pub others_have : WalkLinking → Result (Unit {0}) LinkFault
+others_have l = rows_have_in l (other_rows l)
+
+abbrev pub reloc_has_in : WalkLinking → ℕ → Option Reloc → Result (Unit {0}) LinkFault
+reloc_has_in l member None = Ok tt
+reloc_has_in l member (Some r) = row_has_in l (row member r)
+
+-- the relocation of an index has a value, or the refusal
+abbrev pub value_at : WalkLinking → ℕ → List Reloc → ℕ → Result (Unit {0}) LinkFault
+value_at l member rs i = reloc_has_in l member (slice_get rs i)
+
+abbrev pub HasValue : WalkLinking → ℕ → Reloc → Type 0
+HasValue l member r = (g : Meaning) × (meaning_in l (row member r) ≡ Ok g)
+
+abbrev pub HasValueOf : WalkLinking → ℕ → List Reloc → ℕ → Type 0
+HasValueOf l member rs i = (d : Reloc) → HasValue l member (slice_index_or rs i d)
+
+-- the relocations of a member that do not remain have values
+abbrev pub TellsOf : WalkLinking → ℕ → List Reloc → List ℕ → Type 0
+TellsOf l member rs remaining = HoldsBetween (HasValueOf l member rs) (length rs) 0 remaining
+
+-- each member has a link, by its row
+pub record HaveLinks (own : Walked) (walk : List ℕ) (links : List Link) : Type 0 where
+  pub each : length walk ≡ length own
+  pub within : All (λ r. r < length links) walk
+
+-- links tell it of each member after the first, by its row
+abbrev pub TellOfOthers : WalkLinking → List ℕ → List Link → Type 0
+TellOfOthers l walk links = (m r : ℕ) (o : Object) (link : Link) → 0 < m → slice_get (objects_of l) m ≡ Some o → slice_get walk m ≡ Some r → slice_get links r ≡ Some link → TellsOf l m o.relocations link.remaining
+
+-- what each relocation of the first member finds, where all have values, or the first refusal
+abbrev pub FindsFirst : WalkLinking → Result (List (Option Found)) OrdinaryFault → Type 0
+FindsFirst l (Ok found) = FindAll (objects_of l) found × (rows_have_in l (first_rows l) ≡ Ok tt)
+FindsFirst l (Err ordinary.NoMemory) = Unit {0}
+FindsFirst l (Err (ordinary.Link fault)) = rows_have_in l (first_rows l) ≡ Err fault
+
+-- a walk is linked with each member at 0
+pub record IsLinkingAtZero (l : WalkLinking) : Type 0 where
+  pub is : IsLinking l
+  pub places : l.places.now ≡ zeros l.scope.now
+  pub tls : offsets (blocks l.scope.now) ≡ Ok l.modules.now
+
+-- a refusal by names
+abbrev pub of_ordinary : Walked → OrdinaryFault → Skip
+of_ordinary walked (ordinary.Link fault) = of_link walked fault
+of_ordinary walked ordinary.NoMemory = skips.NoMemory
+
+-- the same by names
+abbrev pub FindsOwn : WalkLinking → Result (List (Option Found)) Skip → Type 0
+FindsOwn l (Ok found) = FindAll (objects_of l) found × (rows_have_in l (first_rows l) ≡ Ok tt)
+FindsOwn l (Err skip) = Answers skip_is_memory (Err skip) (because (of_link l.scope.now) (rows_have_in l (first_rows l)))
+
+-- ---- a program by its walk
+
+-- the relocations of each member after the first that do not vary have values, wherever thread-local storage is
+abbrev pub TellLinks : Walked → List ℕ → List Link → Type 0
+TellLinks own walk links = (linking : WalkLinking) → linking.scope.now ≡ own → linking.places.now ≡ zeros own → TellOfOthers linking walk links
+
+-- what its relocations find where its walk links; or the refusal
+abbrev pub LinksProgram : Walked → Result Link Skip → Type 0
+LinksProgram own (Ok l) = FindAll (objects own) l.found × ((l.remaining ≡ []) × (check_links own ≡ Ok tt))
+LinksProgram own (Err skip) = Answers skip_is_memory (Err skip) (check_links own)

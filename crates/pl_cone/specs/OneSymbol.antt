@@ -10,7 +10,8 @@ use Rattle.pl_scope.specs.declared.found.Found.{Found}
 use Rattle.pl_scope.specs.declared.reference.Reference.{Reference}
 use Rattle.pl_sym.specs.Symbol.{is_tls}
 use Rattle.pl_sym.specs.declared.symbol.Symbol.{Symbol}
-use Rattle.pl_cone.specs.Definers.{AtMostOnce}
+use Rattle.pl_scope.specs.Folder.{HasOneEntryAtMost}
+use Rattle.pl_scope.specs.declared.index.Entry.{Entry}
 use Rattle.pl_cone.specs.Folder.{IsMadeOf, IsMember}
 
 -- ---- by one scope
@@ -20,13 +21,13 @@ abbrev pub symbol_of : List Object → Found → Option Symbol
 symbol_of objects f = option_and_then (λ o. slice_get o.symbols f.symbol) (slice_get objects f.member)
 
 -- the name of a reference's symbol has its hash at most once among those of the definers
-pub record HasSingleName (definers : List ℕ) (objects : List Object) (r : Reference) : Type 0 where
+pub record HasSingleName (definers : List Entry) (objects : List Object) (r : Reference) : Type 0 where
   pub symbol : Symbol
   pub own : own_symbol objects r ≡ Some symbol
-  pub once : AtMostOnce definers symbol.name
+  pub once : HasOneEntryAtMost definers symbol.name
 
 -- it has, and finds a symbol that is not thread-local
-pub record FindsOneSymbolBy (definers : List ℕ) (objects : List Object) (r : Reference) : Type 0 where
+pub record FindsOneSymbolBy (definers : List Entry) (objects : List Object) (r : Reference) : Type 0 where
   pub found : Found
   pub looks : finds objects r ≡ Some found
   pub symbol : Symbol

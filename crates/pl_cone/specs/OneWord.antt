@@ -5,6 +5,7 @@ use Rattle.pl_object.specs.declared.object.Object.{Object}
 use Rattle.pl_object.specs.declared.reloc.Reloc.{Reloc}
 use Rattle.pl_scope.specs.Scope.{objects}
 use Rattle.pl_scope.specs.Walk.{Walked}
+use Rattle.pl_scope.specs.declared.index.Entry.{Entry}
 use Rattle.pl_tls.specs.declared.module.Module.{Module}
 use Rattle.pl_value.specs.Targets.{base_of}
 use Rattle.pl_value.specs.Values.{reference, value_of}
@@ -24,21 +25,17 @@ unfoldable pub is_without_symbol : ℕ → Bool
 is_without_symbol kind = kind == R_X86_64_RELATIVE || kind == R_X86_64_NONE
 
 -- a relocation refers to no symbol, or it gives the address of one that is settled
-pub record GivesAddress (definers : List ℕ) (own : List Object) (r : Reloc) : Type 0 where
+pub record GivesAddress (definers : List Entry) (own : List Object) (r : Reloc) : Type 0 where
   pub kind : is_of_address r.kind ≡ true
   pub symbol : ((r.symbol == 0) ≡ true) ⊎ FindsOneSymbolBy definers own (reference 0 r)
 
-abbrev pub GivesOneWordBy : List ℕ → List Object → Reloc → Type 0
+abbrev pub GivesOneWordBy : List Entry → List Object → Reloc → Type 0
 GivesOneWordBy definers own r = (is_without_symbol r.kind ≡ true) ⊎ GivesAddress definers own r
-
--- a flag that is set tells it
-abbrev pub IsFlag : List ℕ → List Object → Reloc → Bool → Type 0
-IsFlag definers own r flag = flag ≡ true → GivesOneWordBy definers own r
 
 -- ---- in every scope
 
 -- the own walk of a name's object in a folder with these definers
-pub record IsOwn (folder : List ℕ → Option Object) (definers : List ℕ) (n : List ℕ) (own : Walked) : Type 0 where
+pub record IsOwn (folder : List ℕ → Option Object) (definers : List Entry) (n : List ℕ) (own : Walked) : Type 0 where
   pub hashes : HasHashes folder definers
   pub made : IsMadeOf folder own
   pub first : IsMember own 0 n
@@ -57,4 +54,4 @@ GivesOneWord folder n own r = (at : List ℕ → ℕ) → (word : Word) × ((wal
 -- ---- laws
 
 abbrev pub FlagsAreLaws : Type 0
-FlagsAreLaws = (folder : List ℕ → Option Object) (definers : List ℕ) (n : List ℕ) (own : Walked) (r : Reloc) → IsOwn folder definers n own → GivesOneWordBy definers (objects own) r → GivesOneWord folder n own r
+FlagsAreLaws = (folder : List ℕ → Option Object) (definers : List Entry) (n : List ℕ) (own : Walked) (r : Reloc) → IsOwn folder definers n own → GivesOneWordBy definers (objects own) r → GivesOneWord folder n own r

@@ -7,7 +7,7 @@ use Rattle.pl_scope.specs.declared.fault.WalkFault.TheVariants as walk
 use Rattle.pl_cone.specs.declared.skip.ConeFault.{ConeFault}
 use Rattle.pl_cone.specs.declared.skip.ConeFault.TheVariants as stops
 use Rattle.pl_cone.specs.declared.skip.Skip.{Skip}
-use Rattle.pl_cone.specs.declared.skip.Skip.TheVariants.{NotThere, BadMark, Refused, Static, NeededIsProgram, TooMany, Form, TlsTooLarge, Undefined, UndefinedTls, TlsMismatch, CopyOutside, NoMemory}
+use Rattle.pl_cone.specs.declared.skip.Skip.TheVariants.{NotThere, BadMark, Refused, Static, NeededIsProgram, TooMany, Form, TlsTooLarge, Link, NoMemory}
 
 abbrev pub skip_is_memory : Skip → Bool
 skip_is_memory NoMemory = true
@@ -19,10 +19,7 @@ skip_is_memory (NeededIsProgram _) = false
 skip_is_memory (TooMany _) = false
 skip_is_memory (Form _ _) = false
 skip_is_memory TlsTooLarge = false
-skip_is_memory (Undefined _ _) = false
-skip_is_memory (UndefinedTls _ _) = false
-skip_is_memory (TlsMismatch _ _) = false
-skip_is_memory (CopyOutside _ _) = false
+skip_is_memory (Link _) = false
 
 abbrev pub of_walk : WalkFault → Skip
 of_walk (walk.NeededIsProgram name) = NeededIsProgram name

@@ -74,7 +74,7 @@ impl From<AllocError> for PlanningFault {
 }
 
 impl From<PlanFault> for PlanningFault {
-    ghost use Rattle.pl_cone.specs.Faults.{of_plan};
+    ghost use Rattle.pl_cone.specs.Faulted.{of_plan};
 
     ghost from_gives = { λ fault whole. whole ≡ of_plan fault };
 
@@ -87,7 +87,7 @@ impl From<PlanFault> for PlanningFault {
 }
 
 impl From<ConeFault> for PlanningFault {
-    ghost use Rattle.pl_cone.specs.Faults.{of_cone};
+    ghost use Rattle.pl_cone.specs.Faulted.{of_cone};
 
     ghost from_gives = { λ fault whole. whole ≡ of_cone fault };
 

@@ -1,363 +1,381 @@
-// Whether the members of a program's walk link.
-ghost use Rattle.std.specs.Prelude.{◌≡◌, ◌<◌, ◌^◌, find, length, map, slice_get, IfOk};
-ghost use Rattle.std.specs.Bool.{OnTrue};
-ghost use Rattle.std.specs.Option.{option_map};
-ghost use Rattle.std.specs.Str.{bytes_eq};
+// Which names may be prelinked, and what their relocations find.
+ghost use Rattle.std.specs.Prelude.{◌≡◌, ◌<◌, ◌+◌, IfOk, OnOk, length, true, false};
 ghost use Rattle.pl_base.specs.Answers.{Answers, because};
-ghost use Rattle.pl_scope.specs.Scope.{objects, walked, AreReferences, IsReference, IsSymbol};
-ghost use Rattle.pl_tls.specs.Layout.{offsets};
+ghost use Rattle.pl_cone.specs.Candidates as candidates;
+ghost use Rattle.pl_cone.specs.Linking as spec;
+ghost use Rattle.pl_cone.specs.Links as by_walk;
+ghost use Rattle.pl_cone.specs.OneWord.{GivesOneWordBy};
+ghost use Rattle.pl_cone.specs.Skips.{skip_is_memory};
+ghost use Rattle.pl_cone.specs.Table as table;
+ghost use Rattle.pl_cone.specs.Taken.{WereTaken};
+ghost use Rattle.pl_scope.specs.Scope.{objects, IsSymbol};
 ghost use Rattle.pl_value.specs.Definers.{IsSought};
-ghost use Rattle.pl_value.specs.Meanings as value;
-ghost use Rattle.pl_cone.specs.Candidates as spec;
-ghost use Rattle.pl_cone.specs.Links as links;
-ghost use Rattle.pl_cone.specs.Skips.{skip_is_memory, of_tls};
+ghost use Rattle.pl_value.specs.Values.{reference};
 
-use crate::{Link, Skip};
+use crate::members::{modules_of, sought};
+use crate::one_word::gives_one_word;
+use crate::pushing::push_some;
+use crate::values::{WalkLinking, first_found, others_have_values};
+use crate::{Link, Skip, Taken, WalkScope};
 use pl_base::{Rows, Text};
+use pl_io::NoMemory;
 use pl_object::Reloc;
-use pl_scope::{Found, Member, Reference, Scope, find};
-use pl_sym::Symbol;
-use pl_tls::{Block, Module, offsets};
-use pl_value::{LinkFault, OrdinaryFault, Places, meanings, reference_of, word_of};
+use pl_scope::{Found, Index, Scope};
+use pl_value::{LinkFault, OrdinaryFault, named_fault, reference_of};
 use std::alloc::{AllocError, Global};
 
-fn blocks_of(alloc: Global, members: &[Member<'_>]) -> Result<Vec<Option<Block>>, AllocError>
-    ensures { IfOk result (λ blocks. blocks.items ≡ map (λ m. m.object.now.tls) members.now) }
-{
-    let mut blocks = Vec::new(alloc);
-    for member in members {
-        blocks.push(member.object.tls)?;
-    }
-    Ok(blocks)
+/// The files of a folder with their walks, and the index of what they define.
+#[derive(Clone, Copy)]
+pub struct WalkedFiles<'t> {
+    pub files: &'t [Taken],
+    pub walks: &'t [Rows<u32>],
+    pub index: &'t Index,
 }
 
-/// What each member has of thread-local storage.
-fn blocks(alloc: Global, scope: &Scope<'_>) -> Result<Vec<Option<Block>>, AllocError>
-    ensures value { IfOk result (λ blocks. blocks.items ≡ spec.blocks scope.now) }
-    ensures few { IfOk result (λ blocks. length blocks.items < 2 ^ 32) }
-{
-    blocks_of(alloc, scope.members())
-}
-
-/// The modules of thread-local storage of the members.
-fn modules(alloc: Global, scope: &Scope<'_>) -> Result<Rows<Module>, Skip>
-    ensures { Answers skip_is_memory result (because of_tls (offsets (spec.blocks scope.now))) }
-{
-    let blocks = blocks(alloc, scope)?;
-    Ok(offsets(alloc, &blocks)?)
-}
-
-/// A copy of the name of the member of an index, an empty one where there is none.
-#[tactic(auto, using(crate::proofs::MemberLaws::member_at))]
-fn name_at(alloc: Global, members: &[Member<'_>], index: u32) -> Result<Text, AllocError>
-    ensures { IfOk result (λ name. name ≡ spec.name_at (walked members.now) index) }
-{
-    match members.get(index as usize) {
-        None => Text::copy_of(alloc, ""),
-        Some(member) => Text::copy_of(alloc, member.name.as_str()),
-    }
-}
-
-/// The symbols of the member of an index.
-#[tactic(auto, using(crate::proofs::MemberLaws::member_at))]
-fn symbols_at<'a>(members: &[Member<'a>], index: u32) -> &'a [Symbol]
-    ensures { result.now ≡ spec.symbols_in (slice_get (walked members.now) index) }
-{
-    match members.get(index as usize) {
-        None => &[],
-        Some(member) => member.object.symbols.as_slice(),
-    }
-}
-
-/// A copy of the name of a symbol of the member of an index. Symbol 0 stands for none.
-#[tactic(auto, unfolding(crate::specs::Candidates::symbol_name))]
-fn symbol_name(
-    alloc: Global,
-    members: &[Member<'_>],
-    member: u32,
-    symbol: u32,
-) -> Result<Option<Rows<u8>>, AllocError>
-    ensures { IfOk result (λ name. name ≡ spec.symbol_name (walked members.now) member symbol) }
-{
-    if symbol == 0 {
-        return Ok(None);
-    }
-    match symbols_at(members, member).get(symbol as usize) {
-        None => Ok(None),
-        Some(symbol) => {
-            let name = Vec::from_slice(alloc, symbol.name.as_slice())?;
-            Ok(Some(Rows::from_vec(name)))
-        }
-    }
-}
-
-/// The index of the member of a link refusal.
-fn member_of(fault: LinkFault) -> u32
-    ensures { result ≡ spec.member_of fault }
-{
-    match fault {
-        LinkFault::Undefined { member, .. } => member,
-        LinkFault::UndefinedTls { member, .. } => member,
-        LinkFault::TlsMismatch { member, .. } => member,
-        LinkFault::CopyOutside { member, .. } => member,
-    }
-}
-
-/// The index of the symbol of a link refusal, 0 for none.
-fn symbol_of(fault: LinkFault) -> u32
-    ensures { result ≡ spec.symbol_of fault }
-{
-    match fault {
-        LinkFault::Undefined { symbol, .. } => symbol,
-        LinkFault::UndefinedTls { symbol, .. } => symbol,
-        LinkFault::TlsMismatch { symbol, .. } => symbol,
-        LinkFault::CopyOutside { symbol, .. } => symbol,
-    }
-}
-
-/// The names of a member and of one of its symbols.
+/// What the relocations of files find, and why some may not be prelinked.
 #[derive(Drop)]
-struct Names {
-    object: Text,
-    symbol: Option<Rows<u8>>,
+pub struct Linked {
+    /// For each file, in their order, what its own relocations find; of no relocations where it may not be prelinked.
+    pub links: Vec<Link>,
+
+    /// For each file the first cause why it may not be prelinked, if there is one.
+    pub causes: Vec<Option<Skip>>,
 }
 
-/// Copies of the names of the member of an index and of a symbol of it.
-fn names_at(
-    alloc: Global,
-    members: &[Member<'_>],
-    member: u32,
-    symbol: u32,
-) -> Result<Names, AllocError>
-    ensures object { IfOk result (λ names. names.object
-        ≡ spec.name_at (walked members.now) member) }
-    ensures symbol { IfOk result (λ names. names.symbol
-        ≡ spec.symbol_name (walked members.now) member symbol) }
+/// Whether a file is a static program.
+fn is_static(taken: &Taken) -> bool
+    ensures { result ≡ spec.is_static_entry taken.now.entry }
 {
-    Ok(Names {
-        object: name_at(alloc, members, member)?,
-        symbol: symbol_name(alloc, members, member, symbol)?,
-    })
-}
-
-/// A link refusal with names in place of indexes.
-fn of_link(alloc: Global, members: &[Member<'_>], fault: LinkFault) -> Result<Skip, AllocError>
-    ensures { IfOk result (λ skip. skip ≡ spec.of_link (walked members.now) fault) }
-{
-    let Names { object, symbol } = names_at(alloc, members, member_of(fault), symbol_of(fault))?;
-    Ok(match fault {
-        LinkFault::Undefined { .. } => Skip::Undefined { object, symbol },
-        LinkFault::UndefinedTls { .. } => Skip::UndefinedTls { object, symbol },
-        LinkFault::TlsMismatch { .. } => Skip::TlsMismatch { object, symbol },
-        LinkFault::CopyOutside { .. } => Skip::CopyOutside { object, symbol },
-    })
-}
-
-/// A place for each member, all alike: no link refusal asks where a member is loaded.
-fn places(alloc: Global, scope: &Scope<'_>) -> Result<Places, AllocError>
-    ensures value { IfOk result (λ places. places ≡ spec.zeros scope.now) }
-    ensures one_each { IfOk result (λ places. length places ≡ length scope.now) }
-{
-    let rows = vec![in alloc; 0; scope.count() as usize]?;
-    Ok(Places::new(Rows::from_vec(rows)))
-}
-
-/// The first relocation without a value, where each is looked up.
-#[tactic(auto, unfolding(crate::specs::Candidates::resolved))]
-fn all_resolved(alloc: Global, scope: &Scope<'_>, modules: &[Module]) -> Result<(), Skip>
-    ensures { spec.AnswersResolved scope.now modules.now result }
-{
-    let places = places(alloc, scope)?;
-    match meanings(alloc, scope, &places, modules) {
-        Ok(_) => Ok(()),
-        Err(OrdinaryFault::Link(fault)) => Err(of_link(alloc, scope.members(), fault)?),
-        Err(OrdinaryFault::NoMemory) => Err(Skip::NoMemory),
+    match taken.object() {
+        None => false,
+        Some(object) => object.kind.is_static(),
     }
 }
 
-fn is_of(link: &Link, name: &str) -> bool
-    ensures { result ≡ bytes_eq link.now.name name.now }
+/// Refuses a file that has a form fault.
+fn formed(alloc: Global, taken: &Taken) -> Result<(), Skip>
+    ensures { Answers skip_is_memory result (spec.formed_by taken.now) }
 {
-    link.name.as_str() == name
-}
-
-/// What is known of the relocations of a name's library.
-fn link_of<'l>(links: &'l [Link], name: &str) -> Option<&'l Link>
-    ensures { option_map (λ l. l.now) result ≡ find (λ l. bytes_eq l.name name.now) links.now }
-{
-    links.iter().find(|link| is_of(link, name))
-}
-
-/// Whether a flag tells that a relocation has a value.
-fn is_flagged(link: Option<&Link>, index: usize) -> bool
-    ensures { OnTrue result (links.IsFlagged (option_map (λ l. l.now) link.entry) index) }
-{
-    let Some(link) = link else {
-        return false;
-    };
-    let flags = link.one_word.as_slice();
-    index < flags.len() && flags[index]
-}
-
-/// What the symbol of a reference finds. Symbol 0 is no reference.
-fn sought(scope: &Scope<'_>, reference: Reference) -> Option<Found>
-    requires { IsReference scope.now reference }
-    ensures { IsSought (objects scope.now) reference result }
-{
-    if reference.symbol == 0 {
-        return None;
+    match taken.fault {
+        None => Ok(()),
+        Some(number) => Err(Skip::Form {
+            name: Text::copy_of(alloc, taken.name.as_str())?,
+            number,
+        }),
     }
-    find(scope, reference)
 }
 
-/// Whether a relocation of a member has a value.
-#[tactic(auto, unfolding(pl_value::specs::Meanings::meaning))]
-fn link(
-    scope: &Scope<'_>,
-    places: &Places,
-    modules: &[Module],
-    member: u32,
+/// Refuses the first member that has a form fault.
+fn all_formed(alloc: Global, files: &[Taken], walk: &[u32]) -> Result<(), Skip>
+    requires files { WereTaken files.now }
+    requires walk { table.AreRows files.now walk.now }
+    ensures { Answers skip_is_memory result (candidates.all_formed (table.faults_of files.now)
+        (table.names_by files.now walk.now)) }
+{
+    for row in walk {
+        formed(alloc, &files[*row as usize])?;
+    }
+    Ok(())
+}
+
+/// The number of a relocation of a library, the first member of its own walk, unless it is known to give the same in every walk.
+fn remaining_number(
+    index: &Index,
+    own: &Scope<'_>,
     reloc: &Reloc,
-) -> Result<(), LinkFault>
-    requires one_each { length places.now ≡ length scope.now }
-    requires reference { IsSymbol (objects scope.now) member reloc.now.symbol }
-    ensures { result ≡ links.row_has (objects scope.now) places.now modules.now
-        (value.row member reloc.now) }
+    found: Option<Found>,
+    number: u32,
+) -> Option<u32>
+    requires reference { IsSymbol (objects own.now) 0 reloc.now.symbol }
+    requires found { IsSought (objects own.now) (reference 0 reloc.now) found }
+    ensures { by_walk.IsRemainingNumber (GivesOneWordBy index.now (objects own.now) reloc.now)
+        number result }
 {
-    let found = sought(scope, reference_of(member, reloc));
-    word_of(scope, places, modules, member, reloc, found)?;
-    Ok(())
-}
-
-/// The first relocation of a member without a value, where a flag tells of some that they have one.
-fn member_links(
-    scope: &Scope<'_>,
-    places: &Places,
-    modules: &[Module],
-    member: u32,
-    relocs: &[Reloc],
-    known: Option<&Link>,
-) -> Result<(), LinkFault>
-    requires one_each { length places.now ≡ length scope.now }
-    requires references { AreReferences scope.now member relocs.now }
-    requires known { links.TellsOf (objects scope.now) places.now modules.now member relocs.now
-        (option_map (λ l. l.now) known) }
-    ensures { result ≡ links.rows_have (objects scope.now) places.now modules.now
-        (map (value.row member) relocs.now) }
-{
-    for index in 0..relocs.len() {
-        if !is_flagged(known, index) {
-            link(scope, places, modules, member, &relocs[index])?;
-        }
+    if gives_one_word(index, own, reloc, found) {
+        None
+    } else {
+        Some(number)
     }
-    Ok(())
 }
 
-/// The first relocation of the members without a value.
-#[tactic(auto, unfolding(pl_value::specs::Meanings::meanings))]
-fn members_link(
-    scope: &Scope<'_>,
-    places: &Places,
-    modules: &[Module],
-    known: &[Link],
-) -> Result<(), LinkFault>
-    requires places { places.now ≡ spec.zeros scope.now }
-    requires one_each { length places.now ≡ length scope.now }
-    requires known { links.HaveValuesAtZero scope.now known.now }
-    ensures { result ≡ links.all_have (objects scope.now) places.now modules.now }
+/// What the relocations of the first member of a walk find there, and which of them remain: which are not known to give the same in every walk.
+pub fn library_link(alloc: Global, own: &WalkScope<'_>, index: &Index) -> Result<Link, NoMemory>
+    requires some { 0 < length own.now.scope }
+    requires index { table.IsIndexOfScope own.now index.now }
+    ensures { IfOk result (by_walk.IsLinkOf index.now own.now.scope) }
 {
-    let members = scope.members();
-    for member in 0..scope.count() {
-        let relocs = scope.object(member).relocations.as_slice();
-        let link = link_of(known, members[member as usize].name.as_str());
-        member_links(scope, places, modules, member, relocs, link)?;
+    let among = own.among(index);
+    let relocs = own.scope.object(0).relocations.as_slice();
+    if relocs.len() > u32::MAX as usize {
+        return Err(NoMemory);
     }
-    Ok(())
+    let mut all = Rows::new(alloc);
+    let mut remaining = Rows::new(alloc);
+    for number in 0..relocs.len() {
+        let reloc = &relocs[number];
+        let found = sought(&own.scope, reference_of(0, reloc), &among);
+        push_some(
+            &mut remaining,
+            remaining_number(index, &own.scope, reloc, found, number as u32),
+        )?;
+        all.push(found)?;
+    }
+    Ok(Link {
+        found: all,
+        remaining,
+    })
 }
 
-/// The first relocation without a value, where `known` tells of some that they have one.
-#[tactic(auto, unfolding(crate::specs::Candidates::resolved))]
-fn resolved_by(
+/// A link refusal, by names.
+fn of_link(alloc: Global, scope: &Scope<'_>, fault: LinkFault) -> Result<Skip, AllocError>
+    ensures { IfOk result (λ skip. skip ≡ candidates.of_link scope.now fault) }
+{
+    let named = named_fault(alloc, scope.members(), fault)?;
+    Ok(Skip::Link(named))
+}
+
+/// A refusal of a program's relocations, by names.
+fn refused(alloc: Global, scope: &Scope<'_>, fault: OrdinaryFault) -> Result<Skip, AllocError>
+    ensures { IfOk result (λ skip. skip ≡ by_walk.of_ordinary scope.now fault) }
+{
+    match fault {
+        OrdinaryFault::Link(fault) => of_link(alloc, scope, fault),
+        OrdinaryFault::NoMemory => Ok(Skip::NoMemory),
+    }
+}
+
+/// What each relocation of the first member finds, in their order; or the first without a value.
+fn own_found(alloc: Global, linking: &WalkLinking<'_, '_>) -> Result<Rows<Option<Found>>, Skip>
+    requires linking { by_walk.IsLinking linking.now }
+    requires some { 0 < length linking.now.scope.now }
+    ensures { by_walk.FindsOwn linking.now result }
+{
+    match first_found(alloc, linking) {
+        Ok(found) => Ok(found),
+        Err(fault) => Err(refused(alloc, linking.scope, fault)?),
+    }
+}
+
+/// Refuses the first relocation of the other members without a value.
+fn others_linked(
     alloc: Global,
-    scope: &Scope<'_>,
-    modules: &[Module],
-    known: &[Link],
+    linking: &WalkLinking<'_, '_>,
+    walk: &[u32],
+    links: &[Link],
 ) -> Result<(), Skip>
-    requires { links.HaveValuesAtZero scope.now known.now }
-    ensures { spec.AnswersResolved scope.now modules.now result }
+    requires linking { by_walk.IsLinking linking.now }
+    requires walk { by_walk.HaveLinks linking.now.scope.now walk.now links.now }
+    requires links { by_walk.TellOfOthers linking.now walk.now links.now }
+    ensures { Answers skip_is_memory result (because (candidates.of_link linking.now.scope.now)
+        (by_walk.others_have linking.now)) }
 {
-    let places = places(alloc, scope)?;
-    match members_link(scope, &places, modules, known) {
+    match others_have_values(linking, walk, links) {
         Ok(()) => Ok(()),
-        Err(fault) => Err(of_link(alloc, scope.members(), fault)?),
+        Err(fault) => Err(of_link(alloc, linking.scope, fault)?),
     }
 }
 
-/// How many relocations of a member no flag tells of.
-fn remaining_in(relocs: &[Reloc], known: Option<&Link>) -> u64 {
-    let mut remaining: u64 = 0;
-    for index in 0..relocs.len() {
-        if !is_flagged(known, index) {
-            remaining = remaining.saturating_add(1);
-        }
-    }
-    remaining
-}
-
-/// How many of all members.
-fn remaining_among(members: &[Member<'_>], known: &[Link]) -> u64 {
-    let mut remaining: u64 = 0;
-    for member in members {
-        let link = link_of(known, member.name.as_str());
-        remaining = remaining.saturating_add(remaining_in(
-            member.object.relocations.as_slice(),
-            link,
-        ));
-    }
-    remaining
-}
-
-/// How many symbols the members have.
-fn symbols_among(members: &[Member<'_>]) -> u64 {
-    let mut count: u64 = 0;
-    for member in members {
-        count = count.saturating_add(member.object.symbols.as_slice().len() as u64);
-    }
-    count
-}
-
-/// Whether an index of all symbols costs less than to look up one by one the relocations that no flag tells of, each through the symbols of the first member. It decides the time alone.
-fn is_index_cheaper(members: &[Member<'_>], known: &[Link]) -> bool {
-    let Some(first) = members.first() else {
-        return true;
-    };
-    let each = first.object.symbols.as_slice().len() as u64;
-    let one_by_one = remaining_among(members, known).saturating_mul(each);
-    one_by_one > symbols_among(members).saturating_mul(8)
-}
-
-/// The first relocation without a value.
-fn resolved(
+/// What the relocations of a program, the first member of a walk that is linked at 0, find there; or the first of the walk that has no value.
+fn linked_by(
     alloc: Global,
-    scope: &Scope<'_>,
-    modules: &[Module],
-    known: &[Link],
-) -> Result<(), Skip>
-    requires { links.HaveValuesAtZero scope.now known.now }
-    ensures { spec.AnswersResolved scope.now modules.now result }
+    linking: &WalkLinking<'_, '_>,
+    walk: &[u32],
+    links: &[Link],
+) -> Result<Link, Skip>
+    requires linking { by_walk.IsLinkingAtZero linking.now }
+    requires some { 0 < length linking.now.scope.now }
+    requires walk { by_walk.HaveLinks linking.now.scope.now walk.now links.now }
+    requires links { by_walk.TellLinks linking.now.scope.now walk.now links.now }
+    ensures { by_walk.LinksProgram linking.now.scope.now result }
 {
-    if known.is_empty() || is_index_cheaper(scope.members(), known) {
-        return all_resolved(alloc, scope, modules);
-    }
-    resolved_by(alloc, scope, modules, known)
+    let found = own_found(alloc, linking)?;
+    others_linked(alloc, linking, walk, links)?;
+    Ok(Link {
+        found,
+        remaining: Rows::new(alloc),
+    })
 }
 
-/// Whether the members link: an offset of thread-local storage may be too great, or a relocation may have no value. Those of which `known` tells that they have one are not looked up.
-#[tactic(auto, unfolding(crate::specs::Candidates::check_links))]
-pub fn check_links(alloc: Global, scope: &Scope<'_>, known: &[Link]) -> Result<(), Skip>
-    requires { links.HaveValuesAtZero scope.now known.now }
-    ensures { Answers skip_is_memory result (spec.check_links scope.now) }
+/// What the relocations of a program, the first member of its walk, find there; or the first of the walk that has no value, or that thread-local storage is too large.
+fn program_link(
+    alloc: Global,
+    index: &Index,
+    links: &[Link],
+    walk: &[u32],
+    own: &WalkScope<'_>,
+) -> Result<Link, Skip>
+    requires index { table.IsIndexOfScope own.now index.now }
+    requires some { 0 < length own.now.scope }
+    requires walk { by_walk.HaveLinks own.now.scope walk.now links.now }
+    requires links { by_walk.TellLinks own.now.scope walk.now links.now }
+    ensures { by_walk.LinksProgram own.now.scope result }
 {
-    let modules = modules(alloc, scope)?;
-    resolved(alloc, scope, modules.as_slice(), known)
+    let modules = modules_of(alloc, &own.scope)?;
+    let places = own.zeros(alloc)?;
+    let linking = WalkLinking {
+        scope: &own.scope,
+        places: &places,
+        modules: modules.as_slice(),
+        among: own.among(index),
+    };
+    linked_by(alloc, &linking, walk, links)
+}
+
+/// What the own relocations of a row's library find; or the first cause why its name may not be prelinked.
+fn link_library(alloc: Global, walked: &WalkedFiles<'_>, row: usize) -> Result<Link, Skip>
+    requires walked { spec.IsWalked walked.now }
+    requires row { spec.HasWalk walked.now row }
+    requires library { spec.is_library_row walked.now row ≡ true }
+    ensures { spec.LinksRow walked.now row result }
+{
+    let walk = walked.walks[row].as_slice();
+    all_formed(alloc, walked.files, walk)?;
+    let own = WalkScope::of(alloc, walked.files, walk)?;
+    Ok(library_link(alloc, &own, walked.index)?)
+}
+
+/// What the own relocations of a row's program find; or the first cause why its name may not be prelinked. `links` has those of all libraries that may be prelinked.
+fn link_program(
+    alloc: Global,
+    walked: &WalkedFiles<'_>,
+    links: &[Link],
+    row: usize,
+) -> Result<Link, Skip>
+    requires walked { spec.IsWalked walked.now }
+    requires links { spec.AreLibraryLinks walked.now links.now }
+    requires sized { length links.now ≡ length walked.now.files.now }
+    requires row { spec.HasWalk walked.now row }
+    requires program { spec.is_library_row walked.now row ≡ false }
+    ensures { spec.LinksRow walked.now row result }
+{
+    let taken = &walked.files[row];
+    let walk = walked.walks[row].as_slice();
+    if is_static(taken) {
+        return Err(Skip::Static(Text::copy_of(alloc, taken.name.as_str())?));
+    }
+    all_formed(alloc, walked.files, walk)?;
+    let own = WalkScope::of(alloc, walked.files, walk)?;
+    program_link(alloc, walked.index, links, walk, &own)
+}
+
+/// Puts in what is found of a row, or why its name may not be prelinked.
+fn put(linked: &mut Linked, row: usize, made: Result<Link, Skip>) -> Result<(), NoMemory>
+    requires links { row < length linked.old.links.items }
+    requires causes { row < length linked.old.causes.items }
+    ensures { spec.Puts row made linked.old linked.new result }
+{
+    match made {
+        Ok(link) => linked.links[row] = link,
+        Err(Skip::NoMemory) => return Err(NoMemory),
+        Err(skip) => linked.causes[row] = Some(skip),
+    }
+    Ok(())
+}
+
+/// Links the library of a row, if it is one, and its walk is not refused.
+fn link_library_row(
+    alloc: Global,
+    walked: &WalkedFiles<'_>,
+    linked: &mut Linked,
+    row: usize,
+) -> Result<(), NoMemory>
+    requires walked { spec.IsWalked walked.now }
+    requires row { row < length walked.now.files.now }
+    requires linked { spec.HaveDone walked.now (spec.libraries_to walked.now row) linked.old }
+    ensures { OnOk result (spec.HaveDone walked.now (spec.libraries_to walked.now (row + 1))
+        linked.new) }
+{
+    if !walked.files[row].is_library() {
+        return Ok(());
+    }
+    if linked.causes[row].is_some() {
+        return Ok(());
+    }
+    let made = link_library(alloc, walked, row);
+    put(linked, row, made)
+}
+
+/// Links all libraries whose walks are not refused.
+fn link_libraries(
+    alloc: Global,
+    walked: &WalkedFiles<'_>,
+    linked: &mut Linked,
+) -> Result<(), NoMemory>
+    requires walked { spec.IsWalked walked.now }
+    requires linked { spec.HaveDone walked.now spec.none_done linked.old }
+    ensures { OnOk result (spec.HaveDone walked.now (spec.is_library_row walked.now) linked.new) }
+{
+    for row in 0..walked.files.len() {
+        link_library_row(alloc, walked, linked, row)?;
+    }
+    Ok(())
+}
+
+/// Links the file of a row that is no library, where its walk is not refused.
+fn link_program_row(
+    alloc: Global,
+    walked: &WalkedFiles<'_>,
+    linked: &mut Linked,
+    row: usize,
+) -> Result<(), NoMemory>
+    requires walked { spec.IsWalked walked.now }
+    requires row { row < length walked.now.files.now }
+    requires linked { spec.HaveDone walked.now (spec.others_to walked.now row) linked.old }
+    ensures { OnOk result (spec.HaveDone walked.now (spec.others_to walked.now (row + 1))
+        linked.new) }
+{
+    if walked.files[row].is_library() {
+        return Ok(());
+    }
+    if linked.causes[row].is_some() {
+        return Ok(());
+    }
+    let made = link_program(alloc, walked, &linked.links, row);
+    put(linked, row, made)
+}
+
+/// Links all other files whose walks are not refused.
+fn link_programs(
+    alloc: Global,
+    walked: &WalkedFiles<'_>,
+    linked: &mut Linked,
+) -> Result<(), NoMemory>
+    requires walked { spec.IsWalked walked.now }
+    requires linked { spec.HaveDone walked.now (spec.is_library_row walked.now) linked.old }
+    ensures { OnOk result (spec.AreLinked walked.now linked.new) }
+{
+    for row in 0..walked.files.len() {
+        link_program_row(alloc, walked, linked, row)?;
+    }
+    Ok(())
+}
+
+/// Links of no relocations, one for each file.
+fn no_links(alloc: Global, count: usize) -> Result<Vec<Link>, AllocError>
+    ensures { IfOk result (λ v. length v.items ≡ count) }
+{
+    let mut links = Vec::new(alloc);
+    for _row in 0..count {
+        links.push(Link::none(alloc))?;
+    }
+    Ok(links)
+}
+
+/// For each file what its own relocations find by its walk, and the first cause why its name may not be prelinked, as `prelinkable` has it; `causes` tells it of those whose walks are refused. Each own relocation is looked up once, and each remaining one of a library once for each program whose walk has it. It fails only for want of memory.
+pub fn links_of(
+    alloc: Global,
+    walked: &WalkedFiles<'_>,
+    causes: Rows<Option<Skip>>,
+) -> Result<Linked, NoMemory>
+    requires walked { spec.IsWalked walked.now }
+    requires causes { causes ≡ table.refusals_in walked.now.files.now }
+    ensures { IfOk result (spec.AreLinked walked.now) }
+{
+    let mut linked = Linked {
+        links: no_links(alloc, walked.files.len())?,
+        causes: causes.into_vec(),
+    };
+    link_libraries(alloc, walked, &mut linked)?;
+    link_programs(alloc, walked, &mut linked)?;
+    Ok(linked)
 }

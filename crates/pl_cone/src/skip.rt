@@ -1,13 +1,13 @@
 // Why a name is not prelinked, and why a run has no stamp.
 ghost use Rattle.std.specs.Prelude.{◌≡◌};
-ghost use Rattle.pl_cone.specs.Skips.{skip_is_memory};
 ghost use Rattle.pl_cone.specs.declared.skip.ConeFault.TheVariants as stops;
 ghost use Rattle.pl_cone.specs.declared.skip.Skip.TheVariants as skips;
 
-use pl_base::{Rows, Text};
+use pl_base::Text;
 use pl_io::NoMemory;
 use pl_scope::WalkFault;
 use pl_tls::TlsFault;
+use pl_value::NamedFault;
 use std::alloc::{AllocError, AllocFailed};
 use std::fmt;
 use thiserror::Error;
@@ -54,41 +54,8 @@ pub enum Skip {
     /// An offset of thread-local storage is too great.
     TlsTooLarge,
 
-    /// A reference that is not weak has no definer.
-    Undefined {
-        /// The name of the object's file.
-        object: Text,
-
-        /// The name of the symbol to which a relocation of the object refers; none for symbol 0.
-        symbol: Option<Rows<u8>>,
-    },
-
-    /// A reference to thread-local data has no definer.
-    UndefinedTls {
-        /// The name of the object's file.
-        object: Text,
-
-        /// The name of the symbol to which a relocation of the object refers; none for symbol 0.
-        symbol: Option<Rows<u8>>,
-    },
-
-    /// A relocation for thread-local storage refers to what is none, or another relocation to what is.
-    TlsMismatch {
-        /// The name of the object's file.
-        object: Text,
-
-        /// The name of the symbol to which a relocation of the object refers; none for symbol 0.
-        symbol: Option<Rows<u8>>,
-    },
-
-    /// The bytes that a COPY asks for do not lie in the memory of one PT_LOAD.
-    CopyOutside {
-        /// The name of the object's file.
-        object: Text,
-
-        /// The name of the symbol to which a relocation of the object refers; none for symbol 0.
-        symbol: Option<Rows<u8>>,
-    },
+    /// A relocation of a member has no value.
+    Link(NamedFault),
 
     /// There was no memory for the answer.
     NoMemory,
@@ -105,10 +72,7 @@ impl fmt::Display for Skip {
             Skip::TooMany(_) => "the walk has too many members",
             Skip::Form { .. } => "an object has no form",
             Skip::TlsTooLarge => "thread-local storage is too large",
-            Skip::Undefined { .. } => "a symbol is undefined",
-            Skip::UndefinedTls { .. } => "a thread-local symbol is undefined",
-            Skip::TlsMismatch { .. } => "a symbol is thread-local, or should be",
-            Skip::CopyOutside { .. } => "a copy's source is not in memory",
+            Skip::Link(fault) => fault.cause.message(),
             Skip::NoMemory => "out of memory",
         };
         f.write_str(cause)
@@ -118,30 +82,24 @@ impl fmt::Display for Skip {
 impl fmt::Debug for Skip {
     fn fmt<W: fmt::Write>(&self, f: &mut fmt::Formatter<W>) -> fmt::Result {
         let (cause, name) = match self {
-            Skip::NotThere(name) => ("NotThere ", name.as_str()),
-            Skip::BadMark(name) => ("BadMark ", name.as_str()),
-            Skip::Refused { name, .. } => ("Refused ", name.as_str()),
-            Skip::Static(name) => ("Static ", name.as_str()),
-            Skip::NeededIsProgram(name) => ("NeededIsProgram ", name.as_str()),
-            Skip::TooMany(name) => ("TooMany ", name.as_str()),
-            Skip::Form { name, .. } => ("Form ", name.as_str()),
+            Skip::NotThere(name) => ("NotThere", name.as_str()),
+            Skip::BadMark(name) => ("BadMark", name.as_str()),
+            Skip::Refused { name, .. } => ("Refused", name.as_str()),
+            Skip::Static(name) => ("Static", name.as_str()),
+            Skip::NeededIsProgram(name) => ("NeededIsProgram", name.as_str()),
+            Skip::TooMany(name) => ("TooMany", name.as_str()),
+            Skip::Form { name, .. } => ("Form", name.as_str()),
             Skip::TlsTooLarge => ("TlsTooLarge", ""),
-            Skip::Undefined { object, .. } => ("Undefined ", object.as_str()),
-            Skip::UndefinedTls { object, .. } => ("UndefinedTls ", object.as_str()),
-            Skip::TlsMismatch { object, .. } => ("TlsMismatch ", object.as_str()),
-            Skip::CopyOutside { object, .. } => ("CopyOutside ", object.as_str()),
+            Skip::Link(fault) => (fault.cause.name(), fault.object.as_str()),
             Skip::NoMemory => ("NoMemory", ""),
         };
         f.write_str(cause)?;
+        if name.is_empty() {
+            return Ok(());
+        }
+        f.write_str(" ")?;
         f.write_str(name)
     }
-}
-
-/// Whether a cause is a want of memory.
-pub fn is_memory(skip: &Skip) -> bool
-    ensures { result ≡ skip_is_memory skip.now }
-{
-    matches!(skip, Skip::NoMemory)
 }
 
 impl From<NoMemory> for Skip {
@@ -220,6 +178,14 @@ impl From<NoMemory> for ConeFault {
     ghost from_gives = { λ _ fault. fault ≡ stops.NoMemory };
 
     fn from(_: NoMemory) -> ConeFault {
+        ConeFault::NoMemory
+    }
+}
+
+impl From<AllocError> for ConeFault {
+    ghost from_gives = { λ _ fault. fault ≡ stops.NoMemory };
+
+    fn from(_: AllocError) -> ConeFault {
         ConeFault::NoMemory
     }
 }

@@ -1,40 +1,221 @@
-// Planned slots.
-ghost use Rattle.std.specs.Prelude.{◌≡◌, find};
-ghost use Rattle.std.specs.Option.{option_map};
-ghost use Rattle.std.specs.Str.{bytes_eq};
-ghost use Rattle.pl_cone.specs.Current as spec;
+// The slots of the libraries that may be prelinked.
+ghost use Rattle.std.specs.Prelude.{◌≡◌, ◌<◌, ◌^◌, IfOk, length, map};
+ghost use Rattle.std.specs.List.{All};
+ghost use Rattle.pl_base.specs.Answers.{Answers, because};
+ghost use Rattle.pl_cone.specs.Faulted.{is_memory, of_plan};
+ghost use Rattle.pl_cone.specs.Slots as spec;
+ghost use Rattle.pl_share.specs.Disjoint.{disjoint};
+ghost use Rattle.pl_share.specs.Shared.{plan_shared};
+ghost use Rattle.pl_slots.specs.Plan.{plan};
+ghost use Rattle.pl_cone.specs.Table as columns;
 
-use crate::Mark;
-use crate::candidates::kind_of;
-use pl_scope::Scope;
-use pl_slots::Slot;
+use crate::pushing::push_some;
+use crate::{Asked, PlanningFault, RunTable};
+use pl_base::{Rows, Text};
+use pl_io::NoMemory;
+use pl_share::{Walks, disjoint, plan_shared};
+use pl_slots::{Slot, Want, plan};
+use std::alloc::{AllocError, Global};
 
-fn is_of(slot: &Slot, name: &str) -> bool
-    ensures { result ≡ bytes_eq slot.now.name name.now }
-{
-    slot.name.as_str() == name
+/// The libraries of a table that may be prelinked.
+#[derive(Drop)]
+struct Wanting {
+    /// What they want, in the order of their rows.
+    wants: Rows<Want>,
+
+    /// For each row the position of its want, if it has one.
+    positions: Vec<Option<u32>>,
 }
 
-fn found<'f>(slots: &'f [Slot], name: &str) -> Option<&'f Slot>
-    ensures { option_map (λ s. s.now) result ≡ find (λ s. bytes_eq s.name name.now) slots.now }
+/// What the library of a row wants; None where it is none, or may not be prelinked.
+fn want_of(alloc: Global, table: &RunTable<'_>, row: usize) -> Result<Option<Want>, AllocError>
+    requires { row < length table.now.files.now }
+    ensures { IfOk result (λ want. want ≡ spec.want_at table.now row) }
 {
-    slots.iter().find(|slot| is_of(slot, name))
+    if !table.is_candidate(row) {
+        return Ok(None);
+    }
+    let taken = &table.files[row];
+    let Some(object) = taken.object() else {
+        return Ok(None);
+    };
+    if !object.kind.is_library() {
+        return Ok(None);
+    }
+    Ok(Some(Want {
+        name: Text::copy_of(alloc, taken.name.as_str())?,
+        span: object.span,
+        align: object.align,
+    }))
 }
 
-/// The planned slot of a name, 0 where it has none.
-#[tactic(auto, unfolding(crate::specs::Current::slot_of))]
-fn slot_of(slots: &[Slot], name: &str) -> u64
-    ensures { result ≡ spec.slot_of slots.now name.now }
+/// Adds what a row wants, if anything.
+fn add_want(wanting: &mut Wanting, want: Option<Want>) -> Result<(), NoMemory>
+    ensures { spec.AddsWant want wanting.old wanting.new result }
 {
-    match found(slots, name) {
+    let Some(want) = want else {
+        wanting.positions.push(None)?;
+        return Ok(());
+    };
+    if wanting.wants.len() >= u32::MAX as usize {
+        return Err(NoMemory);
+    }
+    wanting.positions.push(Some(wanting.wants.len() as u32))?;
+    wanting.wants.push(want)?;
+    Ok(())
+}
+
+/// What all want.
+fn wanting_of(alloc: Global, table: &RunTable<'_>) -> Result<Wanting, NoMemory>
+    requires { columns.IsRunTableOfSome table.now }
+    ensures { IfOk result (spec.IsWanting table.now) }
+{
+    let mut wanting = Wanting {
+        wants: Rows::new(alloc),
+        positions: Vec::new(alloc),
+    };
+    for row in 0..table.files.len() {
+        let want = want_of(alloc, table, row)?;
+        add_want(&mut wanting, want)?;
+    }
+    Ok(wanting)
+}
+
+// ---- slots that walks may share
+
+/// The positions of the rows of a walk that want slots.
+fn positions_in(
+    alloc: Global,
+    positions: &[Option<u32>],
+    walk: &[u32],
+) -> Result<Rows<u32>, AllocError>
+    requires { columns.AreBelow (length positions.now) walk.now }
+    ensures { IfOk result (λ v. v ≡ spec.positions_in positions.now walk.now) }
+{
+    let mut all = Rows::new(alloc);
+    for row in walk {
+        push_some(&mut all, positions[*row as usize])?;
+    }
+    Ok(all)
+}
+
+/// For each name that may be prelinked the positions of the libraries that its walk holds.
+fn table_walks(alloc: Global, table: &RunTable<'_>, wanting: &Wanting) -> Result<Walks, AllocError>
+    requires table { columns.IsRunTableOfSome table.now }
+    requires wanting { spec.IsWanting table.now wanting.now }
+    ensures { IfOk result (λ walks. walks.rows ≡ spec.table_walks table.now) }
+{
+    let mut rows = Rows::new(alloc);
+    for row in 0..table.files.len() {
+        if table.is_candidate(row) {
+            rows.push(positions_in(alloc, &wanting.positions, table.walk(row))?)?;
+        }
+    }
+    Ok(Walks { rows })
+}
+
+// ---- all slots
+
+/// Slots of which no two share an address.
+fn apart_slots(
+    alloc: Global,
+    asked: &Asked<'_>,
+    wants: &[Want],
+) -> Result<Rows<Slot>, PlanningFault>
+    requires { All (λ w. 0 < w.align) wants.now }
+    ensures value { Answers is_memory result (because of_plan
+        (plan (disjoint asked.now.rows.now wants.now asked.now.region)
+        wants.now asked.now.region)) }
+    ensures names { IfOk result (spec.HaveNamesIf wants.now) }
+{
+    let kept = disjoint(alloc, asked.rows, wants, asked.region)?;
+    Ok(plan(alloc, kept.as_slice(), wants, asked.region)?)
+}
+
+/// Slots of which two may share addresses that no walk holds together.
+fn shared_slots(
+    alloc: Global,
+    asked: &Asked<'_>,
+    wants: &[Want],
+    walks: &Walks,
+) -> Result<Rows<Slot>, PlanningFault>
+    requires { All (λ w. 0 < w.align) wants.now }
+    ensures value { Answers is_memory result (because of_plan
+        (plan_shared asked.now.rows.now wants.now walks.now.rows asked.now.region)) }
+    ensures names { IfOk result (spec.HaveNamesIf wants.now) }
+{
+    Ok(plan_shared(alloc, asked.rows, wants, walks, asked.region)?)
+}
+
+/// The slots of all that want some, in their order. Where libraries may share addresses, those may overlap that no walk holds together; else no two overlap.
+fn planned_slots(
+    alloc: Global,
+    table: &RunTable<'_>,
+    asked: &Asked<'_>,
+    wanting: &Wanting,
+) -> Result<Rows<Slot>, PlanningFault>
+    requires table { columns.IsRunTableOfSome table.now }
+    requires wanting { spec.IsWanting table.now wanting.now }
+    ensures value { Answers is_memory result (spec.table_slots table.now asked.now) }
+    ensures names { IfOk result (spec.HaveWantedNames (spec.table_wants table.now)) }
+{
+    let wants = wanting.wants.as_slice();
+    if !asked.share {
+        return apart_slots(alloc, asked, wants);
+    }
+    let walks = table_walks(alloc, table, wanting)?;
+    shared_slots(alloc, asked, wants, &walks)
+}
+
+/// The start of a slot by its position, 0 where there is none.
+fn start_of(slots: &[Slot], position: Option<u32>) -> u64
+    ensures { result ≡ spec.start_at slots.now position }
+{
+    match position {
         None => 0,
-        Some(slot) => slot.start,
+        Some(position) => match slots.get(position as usize) {
+            None => 0,
+            Some(slot) => slot.start,
+        },
     }
 }
 
-/// Whether a library stands at its planned slot.
-pub fn at_slot(slots: &[Slot], name: &str, mark: &Mark<'_>, scope: &Scope<'_>) -> bool
-    ensures { result ≡ spec.at_slot slots.now name.now mark.now scope.now }
+/// The starts of the slots by rows.
+fn places_by(
+    alloc: Global,
+    slots: &[Slot],
+    positions: &[Option<u32>],
+) -> Result<Rows<u64>, AllocError>
+    ensures { IfOk result (λ v. v ≡ map (spec.start_at slots.now) positions.now) }
 {
-    !kind_of(scope).is_library() || mark.slot == slot_of(slots, name)
+    let mut places = Rows::new(alloc);
+    for position in positions {
+        places.push(start_of(slots, *position))?;
+    }
+    Ok(places)
+}
+
+/// The slots of the libraries that may be prelinked.
+#[derive(Drop)]
+pub struct PlannedSlots {
+    /// In the order of their rows.
+    pub slots: Rows<Slot>,
+
+    /// For each row where its slot starts, 0 where it has none.
+    pub places: Rows<u64>,
+}
+
+/// A slot for each library that may be prelinked, in the order of the files, by `plan` of pl_slots over the rows of the cache that are kept, or, where libraries may share addresses that the walk of no name which may be prelinked holds together, by `plan_shared` of pl_share. NoSlot comes exactly where no hole holds a library.
+pub fn slots_of(
+    alloc: Global,
+    table: &RunTable<'_>,
+    asked: &Asked<'_>,
+) -> Result<PlannedSlots, PlanningFault>
+    requires { columns.IsRunTableOfSome table.now }
+    ensures { spec.PlacesSlots table.now asked.now result }
+{
+    let wanting = wanting_of(alloc, table)?;
+    let slots = planned_slots(alloc, table, asked, &wanting)?;
+    let places = places_by(alloc, slots.as_slice(), &wanting.positions)?;
+    Ok(PlannedSlots { slots, places })
 }

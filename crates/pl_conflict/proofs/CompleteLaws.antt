@@ -174,7 +174,7 @@ all_in objects originals files places modules gs read placed is =
 
 -- ---- the premises of the law on pieces
 
-all_fit : (objects : List Object) (originals : List (List ℕ)) (places : List ℕ) (modules : List Module) (gs : List Meaning) → AreRead originals objects → IsProgramScope objects → meanings objects places modules ≡ Ok gs → AllFit is_library gs
+pub all_fit : (objects : List Object) (originals : List (List ℕ)) (places : List ℕ) (modules : List Module) (gs : List Meaning) → AreRead originals objects → IsProgramScope objects → meanings objects places modules ≡ Ok gs → AllFit is_library gs
 all_fit objects originals places modules gs read scope is =
     let within : All (λ g. g.member < length objects) gs =
     zip_all (IsGiven objects places modules) (IsKnown objects) (λ g. g.member < length objects) (rows objects) gs

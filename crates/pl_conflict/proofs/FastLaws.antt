@@ -35,14 +35,14 @@ vacuous None a v h = tt
 vacuous (Some f) a v h = λ hit. absurd (false≢true (sym h ∙ hit))
 
 -- the byte at an address under no place
-laid_away : (make : Meaning → Option Fill) (gs : List Meaning) (fs : List Fill) (m : Memory) (a : ℕ) → IsPermutation (filter_map make gs) fs → All (Inside make a) gs → list_any (under a) gs ≡ false → filled m fs a ≡ m a
+pub laid_away : (make : Meaning → Option Fill) (gs : List Meaning) (fs : List Fill) (m : Memory) (a : ℕ) → IsPermutation (filter_map make gs) fs → All (Inside make a) gs → list_any (under a) gs ≡ false → filled m fs a ≡ m a
 laid_away make gs fs m a perm inside none =
     let P : Fill → Type 0 = λ f. covers a f ≡ true → Some (fill_byte a f) ≡ m a in
     let each : All (λ g. IfSome (make g) P) gs = λ k d lt. vacuous (make (get_or gs k d)) a (m a) (inside k d lt (none_at (under a) gs k d lt none)) in
     settled m fs a (m a) (All-permutation P (filter_map make gs) fs perm (All-filter_map P make gs each)) (inl refl)
 
 -- the byte at an address under the place at i
-laid_at : (make : Meaning → Option Fill) (gs : List Meaning) (fs : List Fill) (m : Memory) (a i : ℕ) (d : Meaning) (v : Option ℕ) → IsPermutation (filter_map make gs) fs → All (Inside make a) gs → AtMostOne under gs → i < length gs → under a (get_or gs i d) ≡ true
+pub laid_at : (make : Meaning → Option Fill) (gs : List Meaning) (fs : List Fill) (m : Memory) (a i : ℕ) (d : Meaning) (v : Option ℕ) → IsPermutation (filter_map make gs) fs → All (Inside make a) gs → AtMostOne under gs → i < length gs → under a (get_or gs i d) ≡ true
     → IfSome (make (get_or gs i d)) (λ f. covers a f ≡ true → Some (fill_byte a f) ≡ v) → (m a ≡ v) ⊎ (is_some_and (covers a) (make (get_or gs i d)) ≡ true) → filled m fs a ≡ v
 laid_at make gs fs m a i d v perm inside lone lt hit one start =
     let P : Fill → Type 0 = λ f. covers a f ≡ true → Some (fill_byte a f) ≡ v in
@@ -94,19 +94,19 @@ row_inside files a member start size library (Put w) fit miss =
 row_inside files a member start size library (Copy from at n) fit miss = tt
 row_inside files a member start size library Nothing fit miss = tt
 
-abbrev make_word : Meaning → Option Fill
+abbrev pub make_word : Meaning → Option Fill
 make_word g = put_of g.start g.word
 
-abbrev make_copy : Memory → Meaning → Option Fill
+abbrev pub make_copy : Memory → Meaning → Option Fill
 make_copy m g = copy_of m g.start g.word
 
 abbrev make_row : List LoadedObject → Meaning → Option Fill
 make_row files g = patched (row_of files g.member g.start g.word)
 
-words_inside : (gs : List Meaning) (a : ℕ) → AllFit is_library gs → All (Inside make_word a) gs
+pub words_inside : (gs : List Meaning) (a : ℕ) → AllFit is_library gs → All (Inside make_word a) gs
 words_inside gs a fit = λ k d lt miss. let g = get_or gs k d in put_inside a g.start g.size (is_library g.member) g.word (fit k d lt) miss
 
-copies_inside : (m : Memory) (gs : List Meaning) (a : ℕ) → AllFit is_library gs → All (Inside (make_copy m) a) gs
+pub copies_inside : (m : Memory) (gs : List Meaning) (a : ℕ) → AllFit is_library gs → All (Inside (make_copy m) a) gs
 copies_inside m gs a fit = λ k d lt miss. let g = get_or gs k d in copy_inside m a g.start g.size (is_library g.member) g.word (fit k d lt) miss
 
 rows_inside : (files : List LoadedObject) (gs : List Meaning) (a : ℕ) → AllFit is_library gs → All (Inside (make_row files) a) gs

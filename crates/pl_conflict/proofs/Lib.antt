@@ -3,8 +3,8 @@ pub mod PieceLaws
 pub mod OrderLaws
 pub mod OwnLaws
 pub mod HeldLaws
-pub mod AmongLaws
-pub mod RemainingLaws
+pub mod MeaningLaws
+pub mod HeldWordLaws
 pub mod ConflictLaws
 pub mod CompleteLaws
 pub mod MemberLaws
@@ -16,3 +16,5 @@ pub mod FormatLaws
 pub mod StandLaws
 pub mod SetLaws
 pub mod FolderLaws
+pub mod FormWordLaws
+pub mod BetweenLaws

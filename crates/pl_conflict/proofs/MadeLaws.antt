@@ -50,7 +50,7 @@ use Rattle.pl_conflict.specs.Conflicts.{rows_of, ascending, conflicts}
 use Rattle.pl_conflict.specs.Format.{mark_of, mark_for, row_of_list, row_for, number_of, PrelinkedAreForms}
 use Rattle.pl_conflict.specs.Own.{own_words}
 use Rattle.pl_conflict.specs.Prelinked as prelinked
-use Rattle.pl_conflict.specs.Prelinked.{Firm, firm_of, all_firm, objects_of, slots_of, originals_of, version_of, has_numbers, list_row, list_of, are_set, library_file, parts_of, fill_of, is_program_place, flat_of, program_by, with_rows, with_modules, program_file, file_of, stored, of_firm}
+use Rattle.pl_conflict.specs.Prelinked.{Firm, firm_of, all_firm, objects_of, slots_of, originals_of, version_of, has_numbers, list_row, list_of, are_set, library_file, parts_of, is_program_place, flat_of, program_by, with_rows, with_modules, program_file, file_of, stored, of_firm}
 use Rattle.pl_conflict.proofs.ConflictLaws.{differ, placed_again}
 use Rattle.pl_conflict.proofs.GivenLaws.{own_meanings, given_sizes, given_bytes, relocated_bytes}
 use Rattle.pl_conflict.proofs.MemberLaws.{when_some, IsFirmOf, firms_zip, firms_are, HasOwn, all_own, IsSet, set_is, library_numbers, program_numbers, version_same}
@@ -283,7 +283,7 @@ pub record IsPrelinked (m : Member) (ms : List Member) (file : List ℕ) : Type 
   pub is : file_of (r ∷ rs) ≡ Some file
   pub small : length file ≤ STORED
 
-stored_some : (o : Option (List ℕ)) (file : List ℕ) → stored o ≡ Some file → (o ≡ Some file) × (length file ≤ STORED)
+pub stored_some : (o : Option (List ℕ)) (file : List ℕ) → stored o ≡ Some file → (o ≡ Some file) × (length file ≤ STORED)
 stored_some None file e = absurd (none-some file e)
 stored_some (Some form) file e =
     let p = when_some (nat_le (length form) STORED) (Some form) file e in

@@ -37,7 +37,7 @@ use Rattle.pl_conflict.specs.Complete.{IsProgramScope, StandFor}
 use Rattle.pl_conflict.specs.Conflicts.{pieces_in, held, row_of, rows_of, ascending, conflicts}
 use Rattle.pl_conflict.specs.Fast as fast
 use Rattle.pl_conflict.specs.Prelinked as prelinked
-use Rattle.pl_conflict.specs.Prelinked.{Firm, objects_of, slots_of, originals_of, version_of, has_numbers, list_of, library_file, parts_of, is_program_place, flat_of}
+use Rattle.pl_conflict.specs.Prelinked.{Firm, objects_of, slots_of, originals_of, version_of, has_numbers, list_of, library_file, is_program_place}
 use Rattle.pl_conflict.specs.Standing.{standing_image}
 use Rattle.pl_conflict.proofs.CompleteLaws.{library_same, conflicts_complete}
 use Rattle.pl_conflict.proofs.GivenLaws.{own_meanings, given_sizes}
@@ -59,7 +59,7 @@ is_program_of Static e f = absurd (true≢false f)
 program_firm : (r : Firm) → HasOwn r → is_library r.object.kind ≡ false → IsFirmProgram r.member.original r.object
 program_firm r own other = record { firm = own.firm; program = is_program_of r.object.kind other own.firm.dynamic }
 
-library_shared : (r : Firm) → HasOwn r → HasLibrary r → is_exec r.object ≡ false
+pub library_shared : (r : Firm) → HasOwn r → HasLibrary r → is_exec r.object ≡ false
 library_shared r own library =
     let facts = accepted r.member.original r.object own.firm.accepted in
     let kind : r.object.header.kind ≡ 3 = ap (λ (h : Header). h.kind) (sym facts.head.header) ∙ library_three r.member.original r.object own.firm.accepted library in
@@ -79,7 +79,7 @@ shared_at (r ∷ rs) all libraries (suc m) lt = shared_at rs (All-tail HasOwn r 
 later_member : (m : ℕ) → fast.is_library (suc m) ≡ true
 later_member m = grind (arith, nat_tests)
 
-program_scope : (r : Firm) (rs : List Firm) → All HasOwn (r ∷ rs) → is_library r.object.kind ≡ false → All HasLibrary rs → IsProgramScope (objects_of (r ∷ rs))
+pub program_scope : (r : Firm) (rs : List Firm) → All HasOwn (r ∷ rs) → is_library r.object.kind ≡ false → All HasLibrary rs → IsProgramScope (objects_of (r ∷ rs))
 program_scope r rs all other libraries zero lt = ap not (program_exec r (All-head HasOwn r rs all) other)
 program_scope r rs all other libraries (suc m) lt = shared_at rs (All-tail HasOwn r rs all) libraries m (omega (arith, lt)) ∙ sym (later_member m)
 

@@ -85,7 +85,7 @@ zip_from R places originals files member (o ∷ os) each =
 
 -- ---- an original, and a library's file
 
-own_pieces : (place : ℕ) (bytes : List ℕ) (ss : List Segment) → pieces_of place bytes ss ss ≡ loaded_pieces place bytes (loads ss)
+pub own_pieces : (place : ℕ) (bytes : List ℕ) (ss : List Segment) → pieces_of place bytes ss ss ≡ loaded_pieces place bytes (loads ss)
 unfolding pieces_of
 own_pieces place bytes [] = refl
 own_pieces place bytes (s ∷ ss) = elim (cases_Bool (is_load s)) [
@@ -99,7 +99,7 @@ moved_stands place slot file s = elim (cases_Bool (is_moved_kind s.kind)) [
   | inr miss ↦ rw miss refl
 ]
 
-moved_pieces : (place slot : ℕ) (file : List ℕ) (ss : List Segment) → pieces_of place file ss (map (moved_segment slot) ss) ≡ loaded_pieces place file (loads ss)
+pub moved_pieces : (place slot : ℕ) (file : List ℕ) (ss : List Segment) → pieces_of place file ss (map (moved_segment slot) ss) ≡ loaded_pieces place file (loads ss)
 unfolding pieces_of
 moved_pieces place slot file [] = refl
 moved_pieces place slot file (s ∷ ss) = elim (cases_Bool (is_load s)) [

@@ -1,6 +1,8 @@
 pub mod Own
+pub mod Between
+pub mod Held
 pub mod Conflicts
-pub mod Among
+pub mod Quiet
 pub mod Compared
 pub mod Fast
 pub mod Standing

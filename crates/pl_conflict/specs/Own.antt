@@ -1,11 +1,13 @@
 -- The own words of a library: what its relocations give in its own scope, in which it is the first object (Jelínek, "Prelink", on the relocation of libraries ahead of a program's start).
 use Rattle.std.specs.Prelude.{ℕ, Bool, not, ◌&&◌, ◌||◌, ◌==◌, List, [], map, Option, Some, None, Result, Ok, Err, slice_get, if◌then◌else◌}
+use Rattle.std.specs.List.{AllZip}
 use Rattle.std.specs.Option.{is_some}
 use Rattle.pl_elf.specs.declared.constants.TheConstants.{R_X86_64_RELATIVE, R_X86_64_DTPMOD64, R_X86_64_TPOFF64}
 use Rattle.pl_object.specs.declared.object.Object.{Object}
 use Rattle.pl_object.specs.declared.reloc.Reloc.{Reloc}
 use Rattle.pl_scope.specs.Finds.{finds}
 use Rattle.pl_scope.specs.declared.found.Found.{Found}
+use Rattle.pl_value.specs.Definers.{IsSought}
 use Rattle.pl_value.specs.Values.{reference, relocations_in, value_of}
 use Rattle.pl_value.specs.declared.fault.LinkFault.{LinkFault}
 use Rattle.pl_value.specs.declared.word.Word.{Word}
@@ -35,3 +37,7 @@ own_word objects places r =
 -- one for each relocation of the first object
 unfoldable pub own_words : List Object → List ℕ → List (Option ℕ)
 own_words objects places = map (own_word objects places) (relocations_in (slice_get objects 0))
+
+-- what each relocation of the first object finds is told
+abbrev pub FindAll : List Object → List (Option Found) → Type 0
+FindAll objects found = AllZip (λ r f. IsSought objects (reference 0 r) f) (relocations_in (slice_get objects 0)) found

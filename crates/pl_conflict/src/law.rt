@@ -2,6 +2,7 @@
 ghost use Rattle.pl_conflict.specs.Complete.{ConflictsAreComplete, FilesStand, FastImagesAreOrdinary};
 ghost use Rattle.pl_conflict.specs.Fast.{FastIsOrdinary};
 ghost use Rattle.pl_conflict.specs.Format.{PrelinkedAreForms, FormatIsKept};
+ghost use Rattle.pl_conflict.specs.Held.{FormsHoldWords};
 
 /// The law of the fast path. Files stand for originals: where no link table is, each has its original's bytes outside the places of relocations, a program has the bytes of the relocated originals at its places, and the rows are the words of libraries' places that differ from what their files hold. Then the files' segments with the rows over them are the originals' segments relocated, at every address; a byte of a link table is 0 on both sides.
 pub fn fast_is_ordinary()
@@ -27,4 +28,9 @@ pub fn format_is_kept<E>()
 pub fn fast_images_are_ordinary<E>()
     ensures stand { FilesStand E }
     ensures ordinary { FastImagesAreOrdinary E }
+{}
+
+/// A library's form, loaded at its slot, holds at each place of eight bytes the word that it was given for the relocation, or what the original holds there where it was given none.
+pub fn forms_hold_words()
+    ensures { FormsHoldWords }
 {}

@@ -41,7 +41,7 @@ pub fn held(
 
 /// Whether bytes are those of a word, little-endian.
 #[tactic(auto, using(pl_base::proofs::WordLaws::bytes64_std))]
-pub fn is_word(bytes: &[u8], word: u64) -> bool
+fn is_word(bytes: &[u8], word: u64) -> bool
     ensures { result ≡ bytes_eq bytes.now (bytes64 word) }
 {
     bytes == word.to_le_bytes().as_slice()
@@ -95,7 +95,7 @@ fn rows_of(
 }
 
 /// Puts rows into ascending order of their addresses.
-pub fn sort_rows(rows: &mut Vec<ConflictRow>)
+fn sort_rows(rows: &mut Vec<ConflictRow>)
     ensures rows { IsPermutation rows.old.items rows.new.items }
     ensures sorted { IsNonDecreasingBy (λ r. r.address) rows.new.items }
 {
@@ -103,7 +103,7 @@ pub fn sort_rows(rows: &mut Vec<ConflictRow>)
 }
 
 /// The conflict rows of a program of whose relocations these meanings are enough: the same rows are made of them as of all that `meanings` of pl_value gives for the scope at the places. They are the rows that `conflicts` gives. It fails only for want of memory; the other conditions are those of `conflicts`.
-pub fn conflicts_by(
+fn conflicts_by(
     alloc: Global,
     scope: &Scope<'_>,
     places: &Places,

@@ -65,3 +65,4 @@ pub mod ReadyLaws
 pub mod KeptLaws
 pub mod AlikeLaws
 pub mod FillLaws
+pub mod KeptDigestLaws

@@ -23,7 +23,7 @@ use Rattle.pl_object.specs.declared.object.Object.{Object}
 use Rattle.pl_object.specs.declared.reloc.Reloc.{Reloc}
 use Rattle.pl_form.specs.Back.{wanted}
 use Rattle.pl_form.specs.Forms as forms
-use Rattle.pl_form.specs.Forms.{original_of, undo_part, planned}
+use Rattle.pl_form.specs.Forms.{original_of}
 use Rattle.pl_form.specs.Found.{ss_of, secs_of, tags_of, places_of, ps_of}
 use Rattle.pl_form.specs.PartLaws.{IsFoundIn, IsFree, IsUnder, IsAsLong, FormsLibrary, FormsProgram, segment_of, stands_at, original_at}
 use Rattle.pl_form.specs.Loads.{stands, pieces_of, fills}
@@ -39,7 +39,7 @@ use Rattle.pl_form.proofs.WholeTheorem.{program_is}
 use Rattle.sha2.proofs.Facts256.{length-sha256}
 use Rattle.sha2.specs.Sha256.{sha256}
 use Rattle.pl_form.specs.Faults.{IsFirm}
-use Rattle.pl_form.specs.Library.{IsFirmLibrary, IsEven, library_with}
+use Rattle.pl_form.specs.Library.{IsFirmLibrary, IsEven, IsShortList, library_with}
 use Rattle.pl_form.specs.Pieces.{is_linked, is_over, IsPieceOf, StandsFor, LibrariesStandFor, IsGiven, ProgramsStandFor, GivenAreWanted, LibrariesAreMoved}
 use Rattle.pl_form.specs.Program.{IsFirmProgram, last_index, program_with}
 use Rattle.pl_form.specs.Words.{listed, checksum_of, digest_in, extension_of}
@@ -48,6 +48,7 @@ use Rattle.pl_form.specs.declared.version.Version.{Version}
 use Rattle.pl_form.proofs.AlikeLaws.{below_library, below_program}
 use Rattle.pl_form.proofs.FirmLaws.{original_is}
 use Rattle.pl_form.proofs.FormOf.{forms_library, forms_program}
+use Rattle.pl_form.proofs.LengthLaws.{library_short}
 use Rattle.pl_form.proofs.ReadyLaws.{digest_ready, extended_some}
 use Rattle.pl_form.proofs.SomeLastLaws.{some_last}
 
@@ -169,24 +170,47 @@ library_forms o x slot stamp list flat version is even filled short =
     forms_library o x slot stamp (checksum_of o) (listed list) flat digest is.firm is.library filled (digest_ready version (sha256 o) (length-sha256 o)) even.below even.even
     (below_library (original_of o) slot stamp (checksum_of o) (listed list) flat digest short)
 
-pub library_moved : LibrariesAreMoved
+moved_by : (o : List ℕ) (x : Object) (slot stamp : ℕ) (list : List ListRow) (flat : List ℕ) (version : Version) → FormsLibrary o x slot stamp (checksum_of o) (listed list) flat (digest_in version o)
+    → ss_of (library_with o slot stamp list flat version) ≡ map (moved_segment slot) x.segments
 unfolding library_with
-library_moved o x slot stamp list flat version is even filled short =
-    let f = library_forms o x slot stamp list flat version is even filled short in
-    (libraries_are_moved o x slot stamp (checksum_of o) (listed list) flat (digest_in version o) f).are ∙ ap (map (moved_segment slot)) (sym (parts_found o x (original_is o x is.firm)).rows)
+moved_by o x slot stamp list flat version f =
+    (libraries_are_moved o x slot stamp (checksum_of o) (listed list) flat (digest_in version o) f).are ∙ ap (map (moved_segment slot)) (sym (parts_found o x f.original).rows)
 
-pub library_stands : LibrariesStandFor
+stands_for : (o : List ℕ) (x : Object) (slot stamp : ℕ) (list : List ListRow) (flat : List ℕ) (version : Version) (address : ℕ) → FormsLibrary o x slot stamp (checksum_of o) (listed list) flat (digest_in version o)
+    → StandsFor (library_with o slot stamp list flat version) o x (fills (ps_of o) flat) slot address
 unfolding library_with
-library_stands o x slot stamp list flat version address is even filled short =
+stands_for o x slot stamp list flat version address f =
     let digest = digest_in version o in
-    let f = library_forms o x slot stamp list flat version is even filled short in
-    let found = parts_found o x (original_is o x is.firm) in
+    let found = parts_found o x f.original in
     let loads_as : LoadsAs (library_with o slot stamp list flat version) o (fills (ps_of o) flat) slot = record {
       count = ap length (libraries_are_moved o x slot stamp (checksum_of o) (listed list) flat digest f).are ∙ length-map (ss_of o) (moved_segment slot);
       free = λ i k d free. libraries_load_alike o x slot stamp (checksum_of o) (listed list) flat digest i k d f free;
       under = λ i k a j d w u. libraries_hold_fills o x slot stamp (checksum_of o) (listed list) flat digest i k a j d w f u;
     } in
     stands_by (library_with o slot stamp list flat version) o x (fills (ps_of o) flat) slot address found loads_as
+
+pub library_moved : LibrariesAreMoved
+library_moved o x slot stamp list flat version is even filled short = moved_by o x slot stamp list flat version (library_forms o x slot stamp list flat version is even filled short)
+
+pub library_stands : LibrariesStandFor
+library_stands o x slot stamp list flat version address is even filled short =
+    stands_for o x slot stamp list flat version address (library_forms o x slot stamp list flat version is even filled short)
+
+-- the same, whatever the size of the form, where the list is short
+listed_forms : (o : List ℕ) (x : Object) (slot stamp : ℕ) (list : List ListRow) (flat : List ℕ) (version : Version) → IsFirmLibrary o x → IsEven slot → length flat ≡ wanted (ps_of o) → IsShortList (listed list)
+    → FormsLibrary o x slot stamp (checksum_of o) (listed list) flat (digest_in version o)
+listed_forms o x slot stamp list flat version is even filled short =
+    let ready = digest_ready version (sha256 o) (length-sha256 o) in
+    forms_library o x slot stamp (checksum_of o) (listed list) flat (digest_in version o) is.firm is.library filled ready even.below even.even
+    (library_short o x slot stamp (checksum_of o) (listed list) (digest_in version o) is.firm is.library ready short.strings short.rows)
+
+pub listed_moved : (o : List ℕ) (x : Object) (slot stamp : ℕ) (list : List ListRow) (flat : List ℕ) (version : Version) → IsFirmLibrary o x → IsEven slot → length flat ≡ wanted (ps_of o) → IsShortList (listed list)
+    → ss_of (library_with o slot stamp list flat version) ≡ map (moved_segment slot) x.segments
+listed_moved o x slot stamp list flat version is even filled short = moved_by o x slot stamp list flat version (listed_forms o x slot stamp list flat version is even filled short)
+
+pub listed_stands : (o : List ℕ) (x : Object) (slot stamp : ℕ) (list : List ListRow) (flat : List ℕ) (version : Version) (address : ℕ) → IsFirmLibrary o x → IsEven slot → length flat ≡ wanted (ps_of o) → IsShortList (listed list)
+    → StandsFor (library_with o slot stamp list flat version) o x (fills (ps_of o) flat) slot address
+listed_stands o x slot stamp list flat version address is even filled short = stands_for o x slot stamp list flat version address (listed_forms o x slot stamp list flat version is even filled short)
 
 -- ---- a program
 

@@ -137,6 +137,11 @@ abbrev pub version_in : Option (List ℕ) → Version
 version_in None = One
 version_in (Some digest) = Two
 
+-- the digest that an undo section keeps, if there is one
+abbrev pub digest_kept : Option Undo → Option (List ℕ)
+digest_kept None = None
+digest_kept (Some u) = u.digest
+
 -- the value of the first entry behind the tags
 abbrev pub stamp_in : List ℕ → List ℕ → ℕ
 stamp_in o front = word64 (16 * length (tags_of o) + 8) (within (d_of o) front) % 2 ^ 32

@@ -164,6 +164,29 @@ fn flat_of(alloc: Global, fills: &[Fill]) -> Result<Vec<u8>, AllocError>
     Ok(flat)
 }
 
+/// The form that `form_program` gives, where the caller has the SHA-256 of the original.
+pub fn form_program_with(
+    alloc: Global,
+    original: &[u8],
+    object: &Object,
+    list: &[ListRow],
+    fills: &[Fill],
+    conflicts: &[ConflictRow],
+    version: Version,
+    digest: &[u8; 32],
+) -> Result<Vec<u8>, FormFault>
+    requires firm { spec.IsFirmProgram original.now object.now }
+    requires fills { AreFills fills.now object.now.relocations }
+    requires digest { digest.now ≡ sha256 original.now }
+    ensures { AnswersAs (λ v. v.items) fault_spec.is_memory result
+        (spec.stored (spec.program_form original.now list.now fills.now conflicts.now version)) }
+{
+    let flat = flat_of(alloc, fills)?;
+    program_with(
+        alloc, original, object, list, &flat, conflicts, version, digest,
+    )
+}
+
 /// The form of an accepted program: its bytes with those of the fills at the places, and behind the last PT_LOAD's memory the dynamic strings with the list's names, the library list and the conflicts; then what followed in the file, the undo section, the section names and the section headers.
 ///
 /// The program was accepted from these bytes and has no form fault other than InRegion. There is one fill for each relocation that is not NONE, in their order, with its address and as many bytes as it changes. TooLarge comes exactly where the form has more than 256 MiB.
@@ -181,10 +204,8 @@ pub fn form_program(
     ensures { AnswersAs (λ v. v.items) fault_spec.is_memory result
         (spec.stored (spec.program_form original.now list.now fills.now conflicts.now version)) }
 {
-    let flat = flat_of(alloc, fills)?;
     let digest = digest_of(original);
-    let form = program_with(
-        alloc, original, object, list, &flat, conflicts, version, &digest,
-    )?;
-    Ok(form)
+    form_program_with(
+        alloc, original, object, list, fills, conflicts, version, &digest,
+    )
 }

@@ -1,5 +1,5 @@
 // What a file is.
-ghost use Rattle.std.specs.Prelude.{◌<◌, ◌^◌, length, IfErr, IfOk};
+ghost use Rattle.std.specs.Prelude.{◌≡◌, ◌<◌, ◌^◌, length, IfErr, IfOk};
 ghost use Rattle.pl_base.specs.Answers.{Answers};
 ghost use Rattle.pl_form.specs.Files as whole;
 ghost use Rattle.pl_form.specs.Marks as spec;
@@ -8,7 +8,15 @@ use crate::has_mark::has_mark;
 use crate::read::marked_of;
 use crate::{File, FileFault};
 use pl_object::accept;
-use std::alloc::Global;
+use std::alloc::{AllocError, Global};
+
+/// Whether a file of fewer than 2^32 bytes bears a mark of a prelinked one: clauses 1 to 8 of acceptance hold, and there is a section `.gnu.prelink_undo`, or a prelink tag in a dynamic table of which clause 9 holds. It fails only for want of memory.
+pub fn bears_mark(alloc: Global, bytes: &[u8]) -> Result<bool, AllocError>
+    requires { length bytes.now < 2 ^ 32 }
+    ensures { IfOk result (λ b. b ≡ spec.has_mark bytes.now) }
+{
+    has_mark(alloc, bytes)
+}
 
 /// What a file of fewer than 2^32 bytes is.
 ///

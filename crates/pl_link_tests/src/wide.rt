@@ -8,7 +8,7 @@ use crate::scope::is_symbol;
 use pl_base::Text;
 use pl_build::build;
 use pl_elf::constants::R_X86_64_GLOB_DAT;
-use pl_loader::{Loader, Started};
+use pl_loader::{GivenFile, Loader, Started};
 use pl_object::Object;
 use pl_place::{Holes, Placer, lowest};
 use pl_scope::{Kept, MAX_MEMBERS, Member, Reference, Scope};
@@ -64,7 +64,7 @@ fn give<F>(alloc: Global, loader: &mut Loader<'_, F>, file: &[u8]) -> Result<(),
     if file.len() > 0x10_0000 {
         return Err("a short file".into());
     }
-    Ok(loader.give(alloc, Some(file.to_vec(alloc)?))?)
+    Ok(loader.give(alloc, Some(GivenFile::new(file.to_vec(alloc)?)))?)
 }
 
 #[test]

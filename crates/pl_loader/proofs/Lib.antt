@@ -13,3 +13,4 @@ pub mod BesideLaws
 pub mod FormLaws
 pub mod WholeLaws
 pub mod TellsLaws
+pub mod GivenFileLaws

@@ -34,7 +34,6 @@ use Rattle.pl_place.specs.declared.fault.PlaceFault.{PlaceFault}
 use Rattle.pl_place.specs.declared.fault.PlaceFault.TheVariants as place_fault
 use Rattle.pl_slots.specs.declared.slot.Want.{Want}
 use Rattle.pl_value.specs.declared.fault.LinkFault.{LinkFault}
-use Rattle.pl_value.specs.declared.fault.LinkFault.TheVariants as link
 use Rattle.pl_loader.specs.Faults.{is_memory, of_file, of_place, of_walk, of_tls}
 use Rattle.pl_loader.specs.Fast.{is_fast, fast_image}
 use Rattle.pl_loader.specs.Places.{holes_beside, places, wants_beside}
@@ -61,10 +60,7 @@ of_tls_tells tls_fault.TooLarge t = refl
 of_tls_tells tls_fault.NoMemory t = t
 
 of_link_tells : (fs : List ObjectFile) (e : LinkFault) → is_memory (of_link fs e) ≡ false
-of_link_tells fs (link.Undefined member symbol) = refl
-of_link_tells fs (link.UndefinedTls member symbol) = refl
-of_link_tells fs (link.TlsMismatch member symbol) = refl
-of_link_tells fs (link.CopyOutside member symbol) = refl
+of_link_tells fs e = refl
 
 -- ---- the files
 

@@ -11,7 +11,7 @@ use Rattle.pl_object.specs.declared.refusal.Refusal.TheVariants as refusals
 use Rattle.pl_scope.specs.declared.fault.WalkFault.{WalkFault}
 use Rattle.pl_scope.specs.declared.fault.WalkFault.TheVariants as walk
 use Rattle.pl_loader.specs.declared.fault.LoadFault.{LoadFault}
-use Rattle.pl_loader.specs.declared.fault.LoadFault.TheVariants.{NotThere, BadMark, Refused, NotProgram, NeededIsProgram, TooMany, TlsTooLarge, NoPlace, Undefined, UndefinedTls, TlsMismatch, CopyOutside, NoMemory}
+use Rattle.pl_loader.specs.declared.fault.LoadFault.TheVariants.{NotThere, BadMark, Refused, NotProgram, NeededIsProgram, TooMany, TlsTooLarge, NoPlace, Link, NoMemory}
 
 abbrev pub is_memory : LoadFault → Bool
 is_memory NoMemory = true
@@ -23,10 +23,7 @@ is_memory (NeededIsProgram _) = false
 is_memory (TooMany _) = false
 is_memory TlsTooLarge = false
 is_memory (NoPlace _) = false
-is_memory (Undefined _ _) = false
-is_memory (UndefinedTls _ _) = false
-is_memory (TlsMismatch _ _) = false
-is_memory (CopyOutside _ _) = false
+is_memory (Link _) = false
 
 -- a file of a name is refused by a clause
 abbrev pub of_refusal : List ℕ → Refusal → LoadFault

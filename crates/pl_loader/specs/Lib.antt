@@ -4,3 +4,4 @@ pub mod Walk
 pub mod Fast
 pub mod Places
 pub mod Started
+pub mod Given

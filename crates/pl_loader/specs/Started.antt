@@ -1,5 +1,5 @@
 -- What a load starts from: the objects at their addresses, the modules of thread-local storage, the entry and the memory (System V gABI, chapter 5; Drepper, "ELF Handling for Thread-Local Storage").
-use Rattle.std.specs.Prelude.{◌≡◌, ℕ, ◌+◌, List, [], ◌∷◌, map, fold, min, max, Option, Some, None, Bool, Result, Ok, Err, ◌⊎◌, true, slice_get, ◌==◌, if◌then◌else◌}
+use Rattle.std.specs.Prelude.{◌≡◌, ℕ, ◌+◌, List, [], ◌∷◌, map, fold, min, max, Option, Some, None, Bool, Result, Ok, Err, ◌⊎◌, true, slice_get, if◌then◌else◌}
 use Rattle.std.specs.List.{zip}
 use Rattle.pl_base.specs.Answers.{◌>>=◌, Answers, NeverMemory, because}
 use Rattle.pl_base.specs.Memory.{Memory}
@@ -8,20 +8,19 @@ use Rattle.pl_elf.specs.Headers.{loads}
 use Rattle.pl_elf.specs.declared.constants.TheConstants.{ADDRESS_LIMIT, PAGE}
 use Rattle.pl_elf.specs.declared.range.Range.{Range}
 use Rattle.pl_elf.specs.declared.segment.Segment.{Segment}
-use Rattle.pl_sym.specs.declared.symbol.Symbol.{Symbol}
 use Rattle.pl_tls.specs.Layout.{offsets}
 use Rattle.pl_tls.specs.declared.block.Block.{Block}
 use Rattle.pl_tls.specs.declared.module.Module.{Module}
 use Rattle.pl_image.specs.Image.{Image, byte_of, extents_of}
+use Rattle.pl_value.specs.LinkNames.{named_fault}
 use Rattle.pl_value.specs.Ordinary.{loaded_objects, ordinary}
 use Rattle.pl_value.specs.declared.fault.LinkFault.{LinkFault}
-use Rattle.pl_value.specs.declared.fault.LinkFault.TheVariants as link
 use Rattle.pl_loader.specs.Faults.{is_memory, of_tls}
 use Rattle.pl_loader.specs.Fast.{is_fast, fast_image}
 use Rattle.pl_loader.specs.Loading.{Loading, objects_of, parts_of}
 use Rattle.pl_place.specs.Policy.{Answering, Choice, Follows}
 use Rattle.pl_loader.specs.Places.{places, IsPlaced, IsUnplaced}
-use Rattle.pl_loader.specs.Walk.{IsFile, IsUnderWay, files}
+use Rattle.pl_loader.specs.Walk.{IsFile, IsUnderWay, files, member}
 use Rattle.pl_scope.specs.Walk.{itself}
 use Rattle.pl_scope.specs.Walking.{wants}
 use Rattle.pl_loader.specs.declared.object_file.ObjectFile.{ObjectFile}
@@ -29,7 +28,7 @@ use Rattle.pl_loader.specs.declared.placed.Placed.{Placed}
 use Rattle.pl_loader.specs.declared.tls_module.TlsModule.{TlsModule}
 use Rattle.pl_loader.specs.declared.started.Started as code
 use Rattle.pl_loader.specs.declared.fault.LoadFault.{LoadFault}
-use Rattle.pl_loader.specs.declared.fault.LoadFault.TheVariants.{NoPlace, Undefined, UndefinedTls, TlsMismatch, CopyOutside}
+use Rattle.pl_loader.specs.declared.fault.LoadFault.TheVariants.{NoPlace, Link}
 
 -- ---- the bounds of an object in memory, in whole pages
 
@@ -83,37 +82,9 @@ entry_of (program ∷ libraries) = program.object.entry
 
 -- ---- link refusals
 
-abbrev pub symbols_in : Option ObjectFile → List Symbol
-symbols_in None = []
-symbols_in (Some f) = f.object.symbols
-
-abbrev pub name_of_symbol : Option Symbol → Option (List ℕ)
-name_of_symbol None = None
-name_of_symbol (Some s) = Some s.name
-
--- the name of a symbol of the object of an index; symbol 0 stands for none
-unfoldable pub symbol_name : List ObjectFile → ℕ → ℕ → Option (List ℕ)
-symbol_name files member symbol = if symbol == 0 then None else name_of_symbol (slice_get (symbols_in (slice_get files member)) symbol)
-
--- the index of the object of a link refusal
-abbrev pub member_of : LinkFault → ℕ
-member_of (link.Undefined member symbol) = member
-member_of (link.UndefinedTls member symbol) = member
-member_of (link.TlsMismatch member symbol) = member
-member_of (link.CopyOutside member symbol) = member
-
--- the index of its symbol, 0 for none
-abbrev pub symbol_of : LinkFault → ℕ
-symbol_of (link.Undefined member symbol) = symbol
-symbol_of (link.UndefinedTls member symbol) = symbol
-symbol_of (link.TlsMismatch member symbol) = symbol
-symbol_of (link.CopyOutside member symbol) = symbol
-
+-- by the names of the files
 abbrev pub of_link : List ObjectFile → LinkFault → LoadFault
-of_link files (link.Undefined member symbol) = Undefined (name_of files member) (symbol_name files member symbol)
-of_link files (link.UndefinedTls member symbol) = UndefinedTls (name_of files member) (symbol_name files member symbol)
-of_link files (link.TlsMismatch member symbol) = TlsMismatch (name_of files member) (symbol_name files member symbol)
-of_link files (link.CopyOutside member symbol) = CopyOutside (name_of files member) (symbol_name files member symbol)
+of_link files fault = Link (named_fault (map member files) fault)
 
 -- ---- the start
 

@@ -1,11 +1,12 @@
 ghost use Rattle.std.specs.Prelude.{◌≡◌};
 ghost use Rattle.pl_loader.specs.declared.fault.LoadFault.TheVariants as faults;
 
-use pl_base::{Rows, Text};
+use pl_base::Text;
 use pl_io::NoMemory;
 use pl_place::PlaceFault;
 use pl_scope::WalkFault;
 use pl_tls::TlsFault;
+use pl_value::NamedFault;
 use std::alloc::{AllocError, AllocFailed};
 use std::fmt;
 use thiserror::Error;
@@ -46,41 +47,8 @@ pub enum LoadFault {
     /// No hole that is left holds the library of this name.
     NoPlace(Text),
 
-    /// A reference that is not weak has no definer.
-    Undefined {
-        /// The name of the object's file.
-        object: Text,
-
-        /// The name of the symbol to which a relocation of the object refers; none for symbol 0.
-        symbol: Option<Rows<u8>>,
-    },
-
-    /// A reference to thread-local data has no definer.
-    UndefinedTls {
-        /// The name of the object's file.
-        object: Text,
-
-        /// The name of the symbol to which a relocation of the object refers; none for symbol 0.
-        symbol: Option<Rows<u8>>,
-    },
-
-    /// A relocation for thread-local storage refers to what is none, or another relocation to what is.
-    TlsMismatch {
-        /// The name of the object's file.
-        object: Text,
-
-        /// The name of the symbol to which a relocation of the object refers; none for symbol 0.
-        symbol: Option<Rows<u8>>,
-    },
-
-    /// The bytes that a COPY asks for do not lie in the memory of one PT_LOAD.
-    CopyOutside {
-        /// The name of the object's file.
-        object: Text,
-
-        /// The name of the symbol to which a relocation of the object refers; none for symbol 0.
-        symbol: Option<Rows<u8>>,
-    },
+    /// A relocation of an object has no value.
+    Link(NamedFault),
 
     /// There was no memory for the answer.
     NoMemory,
@@ -97,10 +65,7 @@ impl fmt::Display for LoadFault {
             LoadFault::TooMany(_) => "the walk has too many members",
             LoadFault::TlsTooLarge => "thread-local storage is too large",
             LoadFault::NoPlace(_) => "no place",
-            LoadFault::Undefined { .. } => "a symbol is undefined",
-            LoadFault::UndefinedTls { .. } => "a thread-local symbol is undefined",
-            LoadFault::TlsMismatch { .. } => "a symbol is thread-local, or should be",
-            LoadFault::CopyOutside { .. } => "a copy's source is not in memory",
+            LoadFault::Link(fault) => fault.cause.message(),
             LoadFault::NoMemory => "out of memory",
         };
         f.write_str(cause)
@@ -110,21 +75,22 @@ impl fmt::Display for LoadFault {
 impl fmt::Debug for LoadFault {
     fn fmt<W: fmt::Write>(&self, f: &mut fmt::Formatter<W>) -> fmt::Result {
         let (cause, name) = match self {
-            LoadFault::NotThere(name) => ("NotThere ", name.as_str()),
-            LoadFault::BadMark(name) => ("BadMark ", name.as_str()),
-            LoadFault::Refused { name, .. } => ("Refused ", name.as_str()),
-            LoadFault::NotProgram(name) => ("NotProgram ", name.as_str()),
-            LoadFault::NeededIsProgram(name) => ("NeededIsProgram ", name.as_str()),
-            LoadFault::TooMany(name) => ("TooMany ", name.as_str()),
+            LoadFault::NotThere(name) => ("NotThere", name.as_str()),
+            LoadFault::BadMark(name) => ("BadMark", name.as_str()),
+            LoadFault::Refused { name, .. } => ("Refused", name.as_str()),
+            LoadFault::NotProgram(name) => ("NotProgram", name.as_str()),
+            LoadFault::NeededIsProgram(name) => ("NeededIsProgram", name.as_str()),
+            LoadFault::TooMany(name) => ("TooMany", name.as_str()),
             LoadFault::TlsTooLarge => ("TlsTooLarge", ""),
-            LoadFault::NoPlace(name) => ("NoPlace ", name.as_str()),
-            LoadFault::Undefined { object, .. } => ("Undefined ", object.as_str()),
-            LoadFault::UndefinedTls { object, .. } => ("UndefinedTls ", object.as_str()),
-            LoadFault::TlsMismatch { object, .. } => ("TlsMismatch ", object.as_str()),
-            LoadFault::CopyOutside { object, .. } => ("CopyOutside ", object.as_str()),
+            LoadFault::NoPlace(name) => ("NoPlace", name.as_str()),
+            LoadFault::Link(fault) => (fault.cause.name(), fault.object.as_str()),
             LoadFault::NoMemory => ("NoMemory", ""),
         };
         f.write_str(cause)?;
+        if name.is_empty() {
+            return Ok(());
+        }
+        f.write_str(" ")?;
         f.write_str(name)
     }
 }

@@ -5,6 +5,8 @@ mod bounds;
 pub mod constants;
 mod fast;
 mod fault;
+mod file_given;
+mod given;
 mod linking;
 mod loader;
 mod modules;
@@ -20,6 +22,8 @@ mod walk_files;
 
 pub use constants::{REGION_END, REGION_START};
 pub use fault::LoadFault;
+pub use file_given::GivenFile;
+pub use given::{given_file, given_if_there};
 pub use loader::Loader;
 pub use object_file::{Mark, ObjectFile};
 pub use placed::Placed;

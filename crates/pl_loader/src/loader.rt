@@ -10,7 +10,7 @@ ghost use Rattle.pl_loader.specs.Walk as spec;
 
 use crate::starting::started;
 use crate::walk_files::WalkFiles;
-use crate::{LoadFault, ObjectFile, Started};
+use crate::{GivenFile, LoadFault, ObjectFile, Started};
 use pl_elf::Range;
 use pl_io::NoMemory;
 use pl_place::{Holes, Placer};
@@ -67,21 +67,18 @@ impl<'p, F> Loader<'p, F> {
     /// Gives the wanted name its file, fewer than 2^32 bytes, or tells that there is none. The names that its object needs are wanted in their order, each once.
     ///
     /// The first cause counts, in this order: `NotThere` where there is no file; `BadMark` where it bears a mark and is no prelinked file; `Refused` where it bears none, and an acceptance clause refuses it; `NotProgram` where it is the first file, and a library; `NeededIsProgram` where it is a later file, and no library, or needs the first, which is a program; `TooMany` where a name would be wanted after `MAX_MEMBERS` names. After a fault the loader is unchanged.
-    pub fn give(&mut self, alloc: Global, file: Option<Vec<u8>>) -> Result<(), LoadFault>
+    pub fn give(&mut self, alloc: Global, file: Option<GivenFile>) -> Result<(), LoadFault>
         requires wanted { IsSome (wants self.old.walk.order) }
-        requires size { ForSome file (λ bytes. length bytes.items < 2 ^ 32) }
-        ensures ok { OnOk result (spec.give self.old.walk (option_map (λ bytes. bytes.items) file)
-            ≡ Ok self.new.walk) }
+        requires size { ForSome file (λ bytes. length bytes < 2 ^ 32) }
+        ensures ok { OnOk result (spec.give self.old.walk file ≡ Ok self.new.walk) }
         ensures err { IfErr result (λ fault. Answers is_memory (Err fault)
-            (spec.give self.old.walk (option_map (λ bytes. bytes.items) file))) }
+            (spec.give self.old.walk file)) }
         ensures same { self.new ≡ record self.old { walk = self.new.walk } }
         ensures unchanged { OnErr result (self.new ≡ self.old) }
         // where the file is the one that the name has, the load goes on with one file more,
-        ensures goes_on { OnOk result (spec.ContinuesEveryLoad self.old.walk
-            (option_map (λ bytes. bytes.items) file) self.new.walk) }
+        ensures goes_on { OnOk result (spec.ContinuesEveryLoad self.old.walk file self.new.walk) }
         // or the fault is what the whole load means
-        ensures stops { IfErr result (start.EndsEveryLoad self.old.walk
-            (option_map (λ bytes. bytes.items) file)) }
+        ensures stops { IfErr result (start.EndsEveryLoad self.old.walk file) }
     {
         self.walk.give(alloc, file)
     }
@@ -112,7 +109,7 @@ impl<'p, F> Loader<'p, F> {
 impl<'p, F: Fn(&Holes, u64, u64) -> Option<u64>> Loader<'p, F> {
     /// What the program starts from, where no name is wanted any more.
     ///
-    /// The first cause counts, in this order: `TlsTooLarge` where an offset of thread-local storage is too great; `NoPlace` at the first library for which nothing fits in what is left of the region; and the first of `Undefined`, `UndefinedTls`, `TlsMismatch` and `CopyOutside` in the order of the relocations. The objects are placed so: the program where it was linked; each prelinked library in scope order at its slot, where that is free of the PT_LOADs of the program's file as it stands, of the busy addresses and of the libraries before it; and each other library in turn where the policy says, in what all these leave of the region.
+    /// The first cause counts, in this order: `TlsTooLarge` where an offset of thread-local storage is too great; `NoPlace` at the first library for which nothing fits in what is left of the region; and `Link` for the first relocation without a value, in their order. The objects are placed so: the program where it was linked; each prelinked library in scope order at its slot, where that is free of the PT_LOADs of the program's file as it stands, of the busy addresses and of the libraries before it; and each other library in turn where the policy says, in what all these leave of the region.
     ///
     /// The program starts `fast` exactly where it is a prelinked file, its list has the names, stamps and checksums of the libraries of its walk, each a prelinked file, in their order, and each of them is placed at its slot. Then the memory is the files' segments as they stand, with the program's conflict rows over them, and no link is looked for. Else it is that of the originals, linked.
     pub fn start(&self, alloc: Global) -> Result<Started<'_>, LoadFault>

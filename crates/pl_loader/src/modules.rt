@@ -39,7 +39,7 @@ pub fn modules(alloc: Global, files: &[ObjectFile]) -> Result<Rows<Module>, Load
 
 /// A copy of the name of the object of an index, an empty one where there is none.
 #[tactic(auto, unfolding(crate::specs::Started::name_of))]
-pub fn name_of(alloc: Global, files: &[ObjectFile], index: u32) -> Result<Text, AllocError>
+fn name_of(alloc: Global, files: &[ObjectFile], index: u32) -> Result<Text, AllocError>
     ensures { IfOk result (λ name. name ≡ spec.name_of files.now index) }
 {
     match files.get(index as usize) {

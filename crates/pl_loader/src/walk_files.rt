@@ -7,7 +7,7 @@ ghost use Rattle.pl_loader.specs.Faults.{is_memory, of_file};
 ghost use Rattle.pl_loader.specs.Loading.{IsLoadable, IsLoading, IsRead};
 ghost use Rattle.pl_loader.specs.Walk as spec;
 
-use crate::{LoadFault, Mark, ObjectFile};
+use crate::{GivenFile, LoadFault, Mark, ObjectFile};
 use pl_base::{Rows, Text};
 use pl_form::{File, FileFault, Marked, read_file};
 use pl_io::NoMemory;
@@ -86,7 +86,7 @@ fn with_mark(name: Text, bytes: Vec<u8>, file: File) -> ObjectFile
 
 /// What a file of a name is, or why it cannot be loaded: its mark, or else the first acceptance clause that refuses it.
 #[tactic(auto, unfolding(crate::specs::Walk::named))]
-fn named(alloc: Global, name: Text, bytes: Vec<u8>) -> Result<ObjectFile, LoadFault>
+fn read_named(alloc: Global, name: Text, bytes: Vec<u8>) -> Result<ObjectFile, LoadFault>
     requires { length bytes.items < 2 ^ 32 }
     ensures exact { Answers is_memory result (spec.named name bytes.items) }
     ensures read { IfOk result IsRead }
@@ -95,6 +95,20 @@ fn named(alloc: Global, name: Text, bytes: Vec<u8>) -> Result<ObjectFile, LoadFa
     match read_file(alloc, &bytes) {
         Ok(file) => Ok(with_mark(name, bytes, file)),
         Err(fault) => Err(file_fault(alloc, name.as_str(), fault)?),
+    }
+}
+
+/// The same of a file whose object may be known already.
+fn named(alloc: Global, name: Text, file: GivenFile) -> Result<ObjectFile, LoadFault>
+    requires { length file < 2 ^ 32 }
+    ensures exact { Answers is_memory result (spec.named name file) }
+    ensures read { IfOk result IsRead }
+    ensures name { IfOk result (λ read. read.name ≡ name) }
+{
+    let parts = file.into_parts();
+    match parts.object {
+        None => read_named(alloc, name, parts.bytes),
+        Some(object) => Ok(with_mark(name, parts.bytes, File::Plain(object))),
     }
 }
 
@@ -113,14 +127,19 @@ fn loadable(alloc: Global, loaded: &str, file: ObjectFile) -> Result<ObjectFile,
 
 /// The file of a name of the walk of the name that is loaded.
 #[tactic(auto, unfolding(crate::specs::Walk::read_in))]
-fn read_in(alloc: Global, loaded: &str, name: Text, bytes: Vec<u8>) -> Result<ObjectFile, LoadFault>
-    requires { length bytes.items < 2 ^ 32 }
-    ensures exact { Answers is_memory result (spec.read_in loaded.now name bytes.items) }
+fn read_in(
+    alloc: Global,
+    loaded: &str,
+    name: Text,
+    given: GivenFile,
+) -> Result<ObjectFile, LoadFault>
+    requires { length given < 2 ^ 32 }
+    ensures exact { Answers is_memory result (spec.read_in loaded.now name given) }
     ensures read { IfOk result IsRead }
     ensures named { IfOk result (λ file. file.name ≡ name) }
     ensures loadable { IfOk result (IsLoadable loaded.now) }
 {
-    let file = named(alloc, name, bytes)?;
+    let file = named(alloc, name, given)?;
     loadable(alloc, loaded, file)
 }
 
@@ -162,23 +181,22 @@ impl WalkFiles {
     }
 
     /// Gives the wanted name its file, or tells that there is none.
-    pub fn give(&mut self, alloc: Global, file: Option<Vec<u8>>) -> Result<(), LoadFault>
+    pub fn give(&mut self, alloc: Global, file: Option<GivenFile>) -> Result<(), LoadFault>
         requires wanted { IsSome (wants self.old.order) }
-        requires size { ForSome file (λ bytes. length bytes.items < 2 ^ 32) }
-        ensures ok { OnOk result (spec.give self.old (option_map (λ bytes. bytes.items) file)
-            ≡ Ok self.new) }
+        requires size { ForSome file (λ bytes. length bytes < 2 ^ 32) }
+        ensures ok { OnOk result (spec.give self.old file ≡ Ok self.new) }
         ensures err { IfErr result (λ fault. Answers is_memory (Err fault)
-            (spec.give self.old (option_map (λ bytes. bytes.items) file))) }
+            (spec.give self.old file)) }
         ensures unchanged { OnErr result (self.new ≡ self.old) }
     {
         let Some(wanted) = self.wants() else {
             return Ok(());
         };
         let name = Text::copy_of(alloc, wanted)?;
-        let Some(bytes) = file else {
+        let Some(given) = file else {
             return Err(LoadFault::NotThere(name));
         };
-        let file = read_in(alloc, self.name.as_str(), name, bytes)?;
+        let file = read_in(alloc, self.name.as_str(), name, given)?;
         self.enter(alloc, file)
     }
 

@@ -39,6 +39,7 @@ pub use named::{
 pub use names::read_needed;
 pub use object::Object;
 pub use place_clauses::{is_in_segment, last_load};
+pub use ranges::ranges_of;
 pub use refusal::Refusal;
 pub use reloc::Reloc;
 pub use relocations::{place, places, raw_width, relocs};

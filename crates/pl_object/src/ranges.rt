@@ -15,7 +15,7 @@ fn window_range(window: &Window) -> Range
     Range::from_size(window.at() as u64, window.size())
 }
 
-/// Windows as ranges.
+/// Windows of a file that end below 2^64, as ranges. It fails only for want of memory.
 pub fn ranges_of(alloc: Global, windows: &[Window]) -> Result<Rows<Range>, AllocError>
     requires { All (λ w. end_of w < 2 ^ 64) windows.now }
     ensures { IfOk result (λ ranges. ranges ≡ map spec.window_range windows.now) }

@@ -1,5 +1,8 @@
 -- What the calls of lower crates ask, of a position-independent program and of a program's file.
-use Rattle.std.proofs.Common.{◌≡◌, ℕ, ◌%◌, ◌^◌, ◌<◌, ◌≤◌, true, false, List, length, Option, Some, None, refl, arith}
+use Rattle.std.proofs.Common.{◌≡◌, ℕ, ◌%◌, ◌^◌, ◌<◌, ◌≤◌, true, false, List, length, Option, Some, None, refl, sym, ap, ◌∙◌, arith}
+use Rattle.std.specs.Prelude.{◌==◌}
+use Rattle.std.proofs.lemmas.Bool.{false≢true}
+use Rattle.pl_base.specs.Bytes.{word16}
 use Rattle.pl_base.specs.Windows.{AllIn}
 use Rattle.pl_elf.specs.Kinds.{is_program, is_static}
 use Rattle.pl_object.specs.Accepted.{Accepted}
@@ -13,7 +16,7 @@ use Rattle.pl_pie.specs.Fix.{word_windows}
 use Rattle.pl_pie.specs.Laws.{PiesArePlaced}
 use Rattle.pl_pie.proofs.AlignLaws.{align_page, align_power, align_even, slot_even, span_some}
 use Rattle.pl_pie.proofs.WordLaws.{length-typed, long_is}
-use Rattle.pl_pie.proofs.PieLaws.{IsPie, pie_is, not_static}
+use Rattle.pl_pie.proofs.PieLaws.{IsPie, pie_is, pie_type, not_static}
 use Rattle.pl_pie.proofs.InsideLaws.{symbols_in, words_in}
 
 -- ---- an accepted program
@@ -42,6 +45,14 @@ pie_none bytes short = of_pie (pie bytes) refl
     of_pie : (m : Option Object) → pie bytes ≡ m → pie bytes ≡ None
     of_pie None is = is
     of_pie (Some o) is = absurd (omega (arith, short, pie_long bytes o is))
+
+-- nor is one of another type
+pub pie_other : (bytes : List ℕ) → (word16 16 bytes == 3) ≡ false → pie bytes ≡ None
+pie_other bytes other = of_pie (pie bytes) refl
+  where
+    of_pie : (m : Option Object) → pie bytes ≡ m → pie bytes ≡ None
+    of_pie None is = is
+    of_pie (Some o) is = absurd (false≢true (sym other ∙ ap (λ (kind : ℕ). kind == 3) (pie_type bytes o (pie_is bytes o is))))
 
 pub program_size : (bytes : List ℕ) (o : Object) → pie bytes ≡ Some o → length (as_program bytes) ≡ length bytes
 program_size bytes o e = length-typed 2 bytes (pie_long bytes o e)

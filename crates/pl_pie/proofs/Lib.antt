@@ -53,3 +53,4 @@ pub mod TagsLaws
 pub mod LooseLaws
 pub mod PlaceLaws
 pub mod BareLaws
+pub mod ReadAtLaws

@@ -1,13 +1,16 @@
 -- A program fixed at an address, as bytes, and how it is loosened again from its own bytes.
-use Rattle.std.specs.Prelude.{◌≡◌, ◌≤◌, ℕ, ◌+◌, ◌-◌, ◌%◌, ◌^◌, Bool, ◌&&◌, ◌==◌, nat_le, List, [], ◌∷◌, Option, Some, None, Result, Ok, Err, if◌then◌else◌}
+use Rattle.std.specs.Prelude.{◌≡◌, ◌≤◌, ◌<◌, length, ℕ, ◌+◌, ◌-◌, ◌%◌, ◌^◌, Bool, ◌&&◌, ◌==◌, nat_le, List, [], ◌∷◌, Option, Some, None, Result, Ok, Err, if◌then◌else◌}
 use Rattle.std.specs.Str.{bytes_eq}
+use Rattle.pl_base.specs.Bytes.{IsBytes}
 use Rattle.pl_base.specs.Sums.{round_down}
 use Rattle.pl_base.specs.Windows.{Window}
 use Rattle.pl_elf.specs.Headers.{segment_of_kind}
 use Rattle.pl_elf.specs.Kinds.{is_program}
 use Rattle.pl_elf.specs.declared.constants.TheConstants.{ET_DYN, PT_LOAD, PAGE, ADDRESS_LIMIT}
 use Rattle.pl_elf.specs.declared.segment.Segment.{Segment}
+use Rattle.pl_object.specs.Accepted.{tags_of}
 use Rattle.pl_object.specs.Reads.{reads}
+use Rattle.pl_object.specs.Tables.{link_windows}
 use Rattle.pl_object.specs.declared.object.Object.{Object}
 use Rattle.pl_object.specs.declared.refusal.Refusal.{Refusal}
 use Rattle.pl_move.specs.Moves.{add8, all_moved, all_back}
@@ -46,6 +49,19 @@ pub record MayBeFixed (o : Object) (at : ℕ) : Type 0 where
 -- one at which a fixed program is found again by its bytes: aligned, and inside the region
 unfoldable pub fits : Object → ℕ → Bool
 fits o at = at % o.align == 0 && nat_le REGION_START at && nat_le (at + o.span) REGION_END
+
+-- a file that `fix` makes of a program at an address
+pub record IsFixedAt (o : Object) (at : ℕ) (file : List ℕ) : Type 0 where
+  pub bytes : List ℕ
+  pub are_bytes : IsBytes bytes
+  pub few : length bytes < 2 ^ 32
+  pub program : pie bytes ≡ Some o
+  pub may : MayBeFixed o at
+  pub is : file ≡ fixed_bytes at o bytes
+
+-- where the link tables of an object stand in a file
+abbrev pub windows_in : List ℕ → Object → List Window
+windows_in file o = link_windows o.header o.segments o.sections (tags_of file o)
 
 -- ---- loosening
 

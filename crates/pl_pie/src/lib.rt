@@ -7,10 +7,12 @@ mod fixing;
 mod law;
 mod links;
 mod meets;
+mod objects;
 mod pie;
 mod placed;
 mod placing;
 mod points;
+mod program;
 mod unfixing;
 mod words;
 
@@ -22,4 +24,5 @@ pub use law::{
 pub use pie::is_pie;
 pub use placed::fix_placed;
 pub use placing::Placing;
+pub use program::{FixedParts, FixedProgram};
 pub use unfixing::unfix;

@@ -18,7 +18,7 @@ use pl_sym::constants::{
 // ---- one symbol
 
 #[tactic(auto, unfolding(law_fixed::specs::Fixed::moves, pl_sym::specs::Definers::is_canonical))]
-fn moves(symbol: &Symbol) -> bool
+pub fn moves(symbol: &Symbol) -> bool
     ensures { result ≡ fixed.moves symbol.now }
 {
     let canonical = symbol.is_undefined() && !symbol.is_local() && symbol.value != 0;

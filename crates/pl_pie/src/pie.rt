@@ -1,14 +1,14 @@
 // Which files are position-independent programs that can be fixed.
-ghost use Rattle.std.specs.Prelude.{◌≡◌, ◌+◌, ◌<◌, ◌≤◌, ◌^◌, length, IfOk};
-ghost use Rattle.pl_base.specs.Bytes.{bytes16, put};
+ghost use Rattle.std.specs.Prelude.{◌≡◌, ◌==◌, ◌+◌, ◌<◌, ◌≤◌, ◌^◌, length, IfOk};
+ghost use Rattle.pl_base.specs.Bytes.{bytes16, put, word16};
 ghost use Rattle.pl_object.specs.Accepted.{Accepted};
 ghost use Rattle.pl_pie.specs.Pie as spec;
 
 use crate::constants::TYPE_AT;
 use crate::links::is_linked;
 use crate::points::{is_laid_out, is_marked};
-use pl_base::put16;
-use pl_elf::constants::{ET_EXEC, HEADER_SIZE};
+use pl_base::{put16, word16};
+use pl_elf::constants::{ET_DYN, ET_EXEC, HEADER_SIZE};
 use pl_io::NoMemory;
 use pl_object::{Object, Refusal, accept};
 use std::alloc::{AllocError, Global};
@@ -31,6 +31,14 @@ pub fn as_program(alloc: Global, bytes: &[u8]) -> Result<Vec<u8>, AllocError>
     let mut program = Vec::from_slice(alloc, bytes)?;
     set_type(&mut program, ET_EXEC);
     Ok(program)
+}
+
+/// Whether the type of a file is the one of position-independent programs and of libraries.
+fn has_pie_type(bytes: &[u8]) -> bool
+    requires { HEADER_SIZE ≤ length bytes.now }
+    ensures { result ≡ (word16 TYPE_AT bytes.now == ET_DYN) }
+{
+    word16(bytes, TYPE_AT) == ET_DYN
 }
 
 /// Whether an accepted object is that of a position-independent program.
@@ -65,6 +73,9 @@ pub fn is_pie(alloc: Global, bytes: &[u8]) -> Result<Option<Object>, NoMemory>
     ensures { IfOk result (λ o. o ≡ spec.pie bytes.now) }
 {
     if bytes.len() < HEADER_SIZE {
+        return Ok(None);
+    }
+    if !has_pie_type(bytes) {
         return Ok(None);
     }
     let program = as_program(alloc, bytes)?;

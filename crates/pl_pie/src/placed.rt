@@ -1,12 +1,13 @@
 // A position-independent program fixed where a policy places it.
 ghost use Rattle.std.specs.Prelude.{◌≡◌, ◌<◌, ◌^◌, length, Some, IfOk};
+ghost use Rattle.pl_pie.specs.Fix.{MayBeFixed, fixed_bytes};
 ghost use Rattle.pl_pie.specs.Pie.{pie};
 ghost use Rattle.pl_place.specs.Policy as policy;
 ghost use Rattle.pl_pie.specs.Placed as spec;
 
 use crate::constants::{REGION_END, REGION_START};
-use crate::{Placing, fix, is_pie};
-use pl_base::Rows;
+use crate::objects::object_at;
+use crate::{FixedProgram, Placing, fix, is_pie};
 use pl_elf::Range;
 use pl_io::NoMemory;
 use pl_object::Object;
@@ -25,24 +26,41 @@ fn pie_holes(alloc: Global) -> Result<Holes, AllocError>
     Ok(Holes::new(region_holes(alloc, region)?))
 }
 
+/// A position-independent program at an address, with the object that is read of it.
+fn read_fixed(
+    alloc: Global,
+    bytes: &[u8],
+    object: Object,
+    address: u64,
+) -> Result<FixedProgram, NoMemory>
+    requires object { pie bytes.now ≡ Some object }
+    requires few { length bytes.now < 2 ^ 32 }
+    requires may { MayBeFixed object address }
+    ensures { IfOk result (λ program. program ≡ fixed_bytes address object bytes.now) }
+{
+    let file = fix(alloc, bytes, &object, address)?;
+    let read = object_at(alloc, &file, object, address)?;
+    Ok(FixedProgram::new(file, read))
+}
+
 /// The program at a policy's answer.
 fn fix_at(
     alloc: Global,
     bytes: &[u8],
-    object: &Object,
+    object: Object,
     place: Option<u64>,
 ) -> Result<Placing, NoMemory>
-    requires object { pie bytes.now ≡ Some object.now }
+    requires object { pie bytes.now ≡ Some object }
     requires few { length bytes.now < 2 ^ 32 }
-    requires place { policy.MayAnswer spec.pie_holes object.now.span object.now.align place }
-    ensures { IfOk result (λ p. p ≡ spec.fixed_at bytes.now object.now place) }
+    requires place { policy.MayAnswer spec.pie_holes object.span object.align place }
+    ensures { IfOk result (λ p. p ≡ spec.fixed_at bytes.now object place) }
 {
     match place {
         None => Ok(Placing::NoPlace),
-        Some(address) => {
-            let bytes = Rows::from_vec(fix(alloc, bytes, object, address)?);
-            Ok(Placing::Fixed { address, bytes })
-        }
+        Some(address) => Ok(Placing::Fixed {
+            address,
+            program: read_fixed(alloc, bytes, object, address)?,
+        }),
     }
 }
 
@@ -67,7 +85,7 @@ pub fn fix_placed<F: Fn(&Holes, u64, u64) -> Option<u64>>(
         Some(object) => {
             let holes = pie_holes(alloc)?;
             let place = placer.place(&holes, object.span, object.align);
-            Ok(fix_at(alloc, bytes, &object, place)?)
+            Ok(fix_at(alloc, bytes, object, place)?)
         }
     }
 }

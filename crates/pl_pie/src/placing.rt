@@ -1,4 +1,4 @@
-use pl_base::Rows;
+use crate::FixedProgram;
 
 /// What a policy makes of a file.
 #[derive(Drop)]
@@ -14,7 +14,7 @@ pub enum Placing {
         /// The address that is added to its own.
         address: u64,
 
-        /// Its bytes.
-        bytes: Rows<u8>,
+        /// The program.
+        program: FixedProgram,
     },
 }

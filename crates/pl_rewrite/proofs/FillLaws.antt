@@ -1,51 +1,25 @@
 -- The bytes at the places of a program: those that its scope makes there.
-use Rattle.std.proofs.Common.{◌≡◌, ℕ, ◌+◌, ◌<◌, true, false, List, [], ◌∷◌, ◌++◌, length, map, take, get_or, refl, sym, ap, ◌∙◌, zero-add, arith, inl, inr}
+use Rattle.std.proofs.Common.{◌≡◌, ℕ, ◌+◌, ◌<◌, true, false, List, [], ◌∷◌, ◌++◌, length, map, refl, sym, ap, ◌∙◌, zero-add, arith, inl, inr}
 use Rattle.std.specs.Prelude.{◌==◌, filter}
 use Rattle.std.specs.List.{All, AllZip, concat}
 use Rattle.std.proofs.lemmas.Bool.{cases_Bool, cases_lt, not-false}
-use Rattle.std.proofs.lemmas.List.{take_more}
 use Rattle.std.proofs.lemmas.List.Elements.{All-head, All-tail}
-use Rattle.pl_base.specs.Memory.{Memory, Piece, filled, is_within, layered, read}
+use Rattle.pl_base.specs.Memory.{Memory, Piece, is_within, read}
 use Rattle.pl_base.specs.Sums.{plus}
 use Rattle.pl_base.specs.Windows.{Window}
-use Rattle.pl_base.proofs.MemoryLaws.{filled-append, read_length, within_is}
+use Rattle.pl_base.proofs.MemoryLaws.{read_length, within_is}
 use Rattle.pl_conflict.proofs.GivenLaws.{IsOwnGiven}
 use Rattle.pl_elf.specs.declared.constants.TheConstants.{R_X86_64_NONE}
 use Rattle.pl_form.specs.Words.{AreFills, flat_of, has_place, fill_window}
-use Rattle.pl_form.specs.declared.file.Fill.{Fill}
-use Rattle.pl_image.specs.Image.{all_pieces}
-use Rattle.pl_image.specs.declared.loaded_object.LoadedObject.{LoadedObject}
 use Rattle.pl_object.specs.Relocations.{places, width}
 use Rattle.pl_object.specs.declared.object.Object.{Object}
 use Rattle.pl_object.specs.declared.reloc.Reloc.{Reloc}
 use Rattle.pl_sym.specs.declared.symbol.Symbol.{Symbol}
 use Rattle.pl_tls.specs.declared.module.Module.{Module}
-use Rattle.pl_value.specs.Linked.{words, copies, worded, written, relocated}
 use Rattle.pl_value.specs.Targets.{base_of}
 use Rattle.pl_value.specs.declared.meaning.Meaning.{Meaning}
 use Rattle.pl_value.proofs.PlaceLaws.{IsHeld}
 use Rattle.pl_rewrite.specs.Fills.{fill_at, fills}
-
--- ---- words and copies as patches
-
-pub written_is : (base : Memory) (gs : List Meaning) → filled base (written base gs) ≡ relocated base gs
-unfolding relocated
-written_is base gs = filled-append base (words gs) (copies (worded base gs) gs)
-
--- ---- a loop over relocations
-
-fills_append : (m : Memory) (rs ss : List Reloc) → fills m (rs ++ ss) ≡ fills m rs ++ fills m ss
-unfolding fills
-fills_append m [] ss = refl
-fills_append m (r ∷ rs) ss = elim (cases_Bool (has_place r)) [
-  | inl some ↦ rw some (ap (λ (fs : List Fill). fill_at m r ∷ fs) (fills_append m rs ss))
-  | inr none ↦ rw none (fills_append m rs ss)
-]
-
-pub fills_more : (m : Memory) (rs : List Reloc) (i : ℕ) (d : Reloc) (front new : List Fill) → i < length rs → new ≡ front ++ fills m (get_or rs i d ∷ []) → front ≡ fills m (take i rs) → new ≡ fills m (take (i + 1) rs)
-fills_more m rs i d front new lt more so_far =
-    let one : List Fill = fills m (get_or rs i d ∷ []) in
-    more ∙ ap (λ (fs : List Fill). fs ++ one) so_far ∙ sym (ap (fills m) (take_more rs i d lt) ∙ fills_append m (take i rs) (get_or rs i d ∷ []))
 
 -- ---- they are fills of the places
 
@@ -71,7 +45,7 @@ read_none m start size e = empty (read m start size) (read_length m start size �
 own_hit : (n size : ℕ) → 0 < size → is_within n size n ≡ true
 own_hit n size some = within_is n size n (omega arith) (omega (arith, some))
 
-place_read : (m : Memory) (pieces : List Piece) (r : Reloc) → IsHeld 0 pieces r → read m (plus 0 r.address) r.width ≡ read m r.address r.width
+pub place_read : (m : Memory) (pieces : List Piece) (r : Reloc) → IsHeld 0 pieces r → read m (plus 0 r.address) r.width ≡ read m r.address r.width
 place_read m pieces r held = elim (cases_lt 0 r.width) [
   | inl some ↦
       let straight : plus 0 r.address ≡ r.address = held.start (plus 0 r.address) (own_hit (plus 0 r.address) r.width some) ∙ zero-add r.address in

@@ -1,36 +1,17 @@
 -- Members that have forms, and the slices that patterns take.
-use Rattle.std.proofs.Common.{◌≡◌, ◌-◌, ◌<◌, ◌≤◌, Bool, true, List, [], ◌∷◌, length, take, drop, get_or, Option, Some, refl, sym, ap, ◌∙◌, arith}
+use Rattle.std.proofs.Common.{◌≡◌, ◌-◌, ◌<◌, ◌≤◌, Bool, true, List, [], ◌∷◌, get_or, Option, Some, refl, ap, ◌∙◌}
 use Rattle.std.specs.List.{All, list_all}
 use Rattle.std.proofs.lemmas.Bool.{and_from, and_parts}
-use Rattle.std.proofs.lemmas.List.{length-map, take_all}
 use Rattle.std.proofs.lemmas.List.Elements.{All-nil, All-cons, All-head, All-tail, All-map}
 use Rattle.pl_conflict.specs.Format.{number_of}
-use Rattle.pl_conflict.specs.Prelinked.{Firm, firm_of, joined, all_firm, objects_of, originals_of, parts_of, part_of, slots_of, walked_of, version_of, is_version}
+use Rattle.pl_conflict.specs.Prelinked.{Firm, firm_of, joined, all_firm, objects_of, version_of, is_version}
 use Rattle.pl_conflict.proofs.MemberLaws.{member_firm, HasOwn}
 use Rattle.pl_form.proofs.AlignLaws.{align_some}
 use Rattle.pl_form.specs.declared.version.Version.{Version}
 use Rattle.pl_form.specs.declared.version.Version.TheVariants.{One, Two}
 use Rattle.pl_object.proofs.AcceptedLaws.{accepted}
 use Rattle.pl_rewrite.specs.Sources.{AreSources, members}
-use Rattle.pl_object.specs.declared.object.Object.{Object}
 use Rattle.pl_scope.specs.Scope.{IsAccepted}
-use Rattle.pl_scope.specs.Scope as scopes
-
--- ---- a slice pattern
-
--- the first, and the others
-pub parts_are : {X : Type 0} (xs : List X) (x : X) → 1 ≤ length xs → x ≡ get_or xs 0 x → xs ≡ x ∷ take (length xs - 1) (drop 1 xs)
-parts_are [] x le is = absurd (omega (arith, le))
-parts_are (y ∷ ys) x le is =
-    let all : take (length (y ∷ ys) - 1) ys ≡ ys = take_all (length (y ∷ ys) - 1) ys (omega arith) in
-    rw (is, all) refl
-
--- there is a first, before the others
-pub split : {X : Type 0} (xs : List X) → 1 ≤ length xs → (x : X) × (xs ≡ x ∷ take (length xs - 1) (drop 1 xs))
-split [] le = absurd (omega (arith, le))
-split {X = X} (y ∷ ys) le =
-    let all : take (length (y ∷ ys) - 1) ys ≡ ys = take_all (length (y ∷ ys) - 1) ys (omega arith) in
-    (y, ap (λ (zs : List X). y ∷ zs) (sym all))
 
 -- ---- tests of all
 
@@ -86,24 +67,3 @@ firm_each (r ∷ rs) all =
 
 pub firm_all : (rs : List Firm) → AreSources rs → all_firm (members rs) ≡ Some rs
 firm_all rs are = firm_each rs are.firm
-
--- ---- as many as members
-
-pub walked_count : (rs : List Firm) → length (walked_of rs) ≡ length rs
-walked_count rs = length-map rs (λ (r : Firm). (r.member.name, r.object))
-
-pub one_each : (rs : List Firm) → length (slots_of rs) ≡ length (walked_of rs)
-one_each rs = length-map rs (λ (r : Firm). r.member.slot) ∙ sym (walked_count rs)
-
-pub originals_each : (rs : List Firm) → length (originals_of rs) ≡ length (walked_of rs)
-originals_each rs = length-map rs (λ (r : Firm). r.member.original) ∙ sym (walked_count rs)
-
-pub parts_each : (rs : List Firm) → length (parts_of rs) ≡ length (walked_of rs)
-parts_each rs = length-map rs (part_of rs) ∙ sym (walked_count rs)
-
-pub some_walked : (rs : List Firm) → 0 < length rs → 0 < length (walked_of rs)
-some_walked rs some = omega (arith, some, walked_count rs)
-
-pub objects_walked : (rs : List Firm) → scopes.objects (walked_of rs) ≡ objects_of rs
-objects_walked [] = refl
-objects_walked (r ∷ rs) = ap (λ (os : List Object). r.object ∷ os) (objects_walked rs)

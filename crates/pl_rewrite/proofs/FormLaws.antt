@@ -24,8 +24,8 @@ use Rattle.pl_form.specs.declared.fault.FormFault.TheVariants.{NoSpareTags, BssT
 use Rattle.pl_form.specs.declared.file.Marked.{Marked}
 use Rattle.pl_form.proofs.FilesLaws.{bytes_are, nothing_else_is_read}
 use Rattle.pl_form.proofs.ReadLaws.{firm_is}
-use Rattle.pl_rewrite.specs.Faults.{fault_in, fault_number}
-use Rattle.pl_rewrite.specs.Skips.{skip_causes}
+use Rattle.pl_cone.specs.Faults.{fault_in, fault_number}
+use Rattle.pl_cone.specs.Skipped.{skip_causes}
 use Rattle.pl_object.specs.PlaceClauses.{last_load}
 use Rattle.pl_object.specs.Reads.{reads}
 use Rattle.pl_object.specs.declared.object.Object.{Object}

@@ -8,7 +8,7 @@ use Rattle.std.specs.Ordering.{eq_by_cmp, nat_cmp}
 use Rattle.std.proofs.lemmas.Bool.{and_from, and_left, and_parts, cases_Bool, false≢true, true≢false, le-ltb, or_from, or_parts}
 use Rattle.std.proofs.lemmas.Option.{none-some, same_Some}
 use Rattle.pl_base.proofs.FilesLaws as folder
-use Rattle.pl_cone.specs.Current.{slot_of}
+use Rattle.pl_cone.specs.Plans.{slot_of}
 use Rattle.pl_conflict.specs.Format.{Causes, format, mark_in, mark_of, read_original}
 use Rattle.pl_conflict.proofs.FormatLaws.{format_kept}
 use Rattle.pl_elf.specs.Kinds.{is_library}
@@ -24,10 +24,10 @@ use Rattle.pl_form.proofs.LengthLaws.{accepted_small}
 use Rattle.pl_journal.specs.Meaning.{mixed}
 use Rattle.pl_journal.specs.declared.change.Change.{Change}
 use Rattle.pl_journal.specs.declared.change.Change.TheVariants.{Put}
-use Rattle.pl_rewrite.specs.Fits.{fit_in}
-use Rattle.pl_rewrite.specs.Plans.{greatest, greatest_of, is_candidate, is_current, is_stale, stale}
-use Rattle.pl_rewrite.specs.Skips.{skip_causes}
-use Rattle.pl_cone.specs.declared.run_plan.RunPlan.{RunPlan}
+use Rattle.pl_cone.specs.Fits.{fit_in}
+use Rattle.pl_cone.specs.Plans.{greatest, greatest_of, is_candidate, is_current, is_stale, stale}
+use Rattle.pl_cone.specs.Skipped.{skip_causes}
+use Rattle.pl_cone.specs.Plans.{RunPlan}
 use Rattle.pl_scope.specs.Members.{has}
 use Rattle.pl_scope.proofs.NameLaws.{has_cons, has_head, has_tail, same_name}
 use Rattle.law_sound.specs.Rule.{Files, mark_at}

@@ -21,8 +21,7 @@ use Rattle.pl_elf.specs.declared.constants.TheConstants.{ADDRESS_LIMIT}
 use Rattle.pl_form.specs.Library.{IsListing}
 use Rattle.pl_lists.specs.Lists.{are_distinct, is_list, is_row, list_strings}
 use Rattle.pl_lists.specs.declared.list_row.ListRow.{ListRow}
-use Rattle.pl_rewrite.specs.Lent.{list_after}
-use Rattle.pl_rewrite.specs.Libraries.{HasNumbers, has_valid_name}
+use Rattle.pl_rewrite.specs.Forms.{HasNumbers, has_valid_name}
 use Rattle.pl_rewrite.specs.Sources.{AreSources, member_names}
 use Rattle.pl_scope.proofs.WalkedLaws.{limit_is}
 use Rattle.sha2.specs.Sha256.{sha256, digest_bytes as hash_bytes}
@@ -113,11 +112,6 @@ list_is rs numbers distinct =
 pub later_distinct : (r : Firm) (rs : List Firm) → AreSources (r ∷ rs) → IsDistinct bytes_eq (member_names rs)
 unfolding IsDistinct
 later_distinct r rs are = are.distinct.1
-
--- there is none without a first
-pub list_none : (rs : List Firm) → length rs < 1 → [] ≡ list_after rs
-list_none [] none = refl
-list_none (r ∷ rs) none = absurd (omega (arith, none))
 
 -- ---- how long the strings are
 

@@ -1,43 +1,29 @@
 -- A run from its plan, and what it makes of all names.
-use Rattle.std.proofs.Common.{◌≡◌, ℕ, ◌+◌, ◌<◌, ◌≤◌, Bool, true, false, List, [], ◌∷◌, ◌++◌, length, take, get_or, Option, Some, None, Result, Ok, refl, sym, ap, subst, ◌∙◌}
+use Rattle.std.proofs.Common.{◌≡◌, ℕ, ◌+◌, ◌<◌, ◌≤◌, Bool, true, false, List, [], ◌∷◌, ◌++◌, Option, Some, None, Result, Ok, refl, sym, ap, subst, ◌∙◌}
 use Rattle.std.specs.Prelude.{◌||◌, map}
 use Rattle.std.specs.List.{cons_option, filter_map, list_any}
-use Rattle.std.proofs.lemmas.List.{take_all, take_more}
 use Rattle.pl_base.specs.Answers.{◌>>=◌}
 use Rattle.pl_base.proofs.AnswerLaws.{bind_ok, ok_same}
 use Rattle.pl_elf.specs.declared.range.Range.{Range}
 use Rattle.pl_journal.specs.declared.change.Change.{Change}
-use Rattle.pl_rewrite.specs.Plans.{planned, slots, stale, stamp_for, standings}
-use Rattle.pl_rewrite.specs.Taken.{names_of}
-use Rattle.pl_rewrite.specs.declared.taken.Taken.{Taken}
+use Rattle.pl_cone.specs.Plans.{planned, slots, stale, stamp_for, standings}
 use Rattle.pl_cone.specs.declared.asked.Asked.{Asked}
 use Rattle.pl_cone.specs.declared.fault.PlanningFault.{PlanningFault}
-use Rattle.pl_cone.specs.declared.run_plan.RunPlan.{RunPlan}
+use Rattle.pl_cone.specs.Plans.{RunPlan}
 use Rattle.pl_slots.specs.declared.slot.Slot.{Slot}
 use Rattle.law_sound.specs.Rule.{Files}
 use Rattle.pl_rewrite.specs.Changes.{change, changes, is_given, next_cache}
+use Rattle.pl_rewrite.specs.Outcomes.{with_made}
 use Rattle.pl_rewrite.specs.Reports.{report, row_of, state_after}
-use Rattle.pl_rewrite.specs.Rewriting.{all_made, rewrite, rewritten, rewritten_with, with_made}
-use Rattle.pl_rewrite.specs.declared.making.AllMade.{AllMade}
-use Rattle.pl_rewrite.specs.declared.making.Made.{Made}
+use Rattle.pl_rewrite.specs.Rewriting.{rewrite, rewritten, rewritten_with, run_made}
+use Rattle.pl_rewrite.specs.declared.finishing.MadeFiles.{MadeFiles}
+use Rattle.pl_rewrite.specs.declared.finishing.Made.{Made}
 use Rattle.pl_rewrite.specs.declared.report.ReportRow.{ReportRow}
 
 -- ---- what a plan says of its names
 
-pub record HasNames (files : Files) (ns : List (List ℕ)) (region : Range) (p : RunPlan) : Type 0 where
-  pub standings : p.standings ≡ standings files region ns
-  pub stale : p.stale ≡ stale files region p.slots ns
-
 abbrev plan_with : Files → List (List ℕ) → Range → List Slot → ℕ → RunPlan
 plan_with files ns region rows stamp = record { standings = standings files region ns; slots = rows; stale = stale files region rows ns; stamp = stamp }
-
-pub plan_names : (files : Files) (ns : List (List ℕ)) (a : Asked) (p : RunPlan) → planned files ns a ≡ Ok p → HasNames files ns a.region p
-unfolding planned
-plan_names files ns a p e =
-    let q = bind_ok (slots files ns a) (λ rows. stamp_for files ns a (stale files a.region rows ns) >>= λ stamp. Ok (plan_with files ns a.region rows stamp)) p e in
-    let r = bind_ok (stamp_for files ns a (stale files a.region q.0 ns)) (λ stamp. Ok (plan_with files ns a.region q.0 stamp)) p q.2 in
-    let same : plan_with files ns a.region q.0 r.0 ≡ p = ok_same (plan_with files ns a.region q.0 r.0) p r.2 in
-    subst (HasNames files ns a.region) same (record { standings = refl; stale = refl })
 
 -- and of its stamp
 pub plan_stamp : (files : Files) (ns : List (List ℕ)) (a : Asked) (p : RunPlan) → planned files ns a ≡ Ok p → stamp_for files ns a (stale files a.region p.slots ns) ≡ Ok p.stamp
@@ -78,10 +64,10 @@ any_append q (y ∷ xs) x = ap (λ (b : Bool). q y || b) (any_append q xs x) ∙
 abbrev made_at : Files → Range → RunPlan → List ℕ → Made
 made_at files region p n = record { change = change files region p n; state = state_after files region p n; given = is_given files region p n }
 
-abbrev make : List Change → List ReportRow → Bool → AllMade
+abbrev make : List Change → List ReportRow → Bool → MadeFiles
 make rows states given = record { rows = rows; states = states; given = given }
 
-made_append : (files : Files) (region : Range) (p : RunPlan) (ns : List (List ℕ)) (n : List ℕ) → with_made (all_made files ns region p) n (made_at files region p n) ≡ all_made files (ns ++ n ∷ []) region p
+pub made_append : (files : Files) (region : Range) (p : RunPlan) (ns : List (List ℕ)) (n : List ℕ) → with_made (run_made files ns region p) n (made_at files region p n) ≡ run_made files (ns ++ n ∷ []) region p
 unfolding changes
 made_append files region p ns n =
     let rows = filter_map (change files region p) ns ++ cons_option (change files region p n) [] in
@@ -91,30 +77,14 @@ made_append files region p ns n =
     ∙ (ap (λ (x : List ReportRow). make rows x (list_any (is_given files region p) (ns ++ n ∷ []))) (map_append (row_of files region p) ns n)
     ∙ ap (λ (x : Bool). make rows states x) (any_append (is_given files region p) ns n)))
 
-names_append : (ts : List Taken) (t : Taken) → names_of (ts ++ t ∷ []) ≡ names_of ts ++ t.name ∷ []
-names_append ts t = map_append (λ (u : Taken). u.name) ts t
-
-pub made_more : (files : Files) (region : Range) (p : RunPlan) (ts : List Taken) (i : ℕ) (t : Taken) (all after : AllMade) (made : Made) → i < length ts → t ≡ get_or ts i t → all ≡ all_made files (names_of (take i ts)) region p
-    → made ≡ record { change = change files region p t.name; state = state_after files region p t.name; given = is_given files region p t.name } → after ≡ with_made all t.name made → after ≡ all_made files (names_of (take (i + 1) ts)) region p
-made_more files region p ts i t all after made lt at so_far one more =
-    let longer : take (i + 1) ts ≡ take i ts ++ t ∷ [] = take_more ts i t lt ∙ ap (λ (u : Taken). take i ts ++ u ∷ []) (sym at) in
-    more
-    ∙ (ap (λ (x : AllMade). with_made x t.name made) so_far
-    ∙ (ap (with_made (all_made files (names_of (take i ts)) region p) t.name) one
-    ∙ (made_append files region p (names_of (take i ts)) t.name
-    ∙ ap (λ (ns : List (List ℕ)). all_made files ns region p) (sym (ap names_of longer ∙ names_append (take i ts) t)))))
-
-pub made_done : (files : Files) (region : Range) (p : RunPlan) (ts : List Taken) (i : ℕ) (all : AllMade) → length ts ≤ i → all ≡ all_made files (names_of (take i ts)) region p → all ≡ all_made files (names_of ts) region p
-made_done files region p ts i all le so_far = so_far ∙ ap (λ (us : List Taken). all_made files (names_of us) region p) (take_all i ts le)
-
-pub made_none : (files : Files) (region : Range) (p : RunPlan) (rows : List Change) (states : List ReportRow) → rows ≡ [] → states ≡ [] → ◌≡◌ {A = AllMade} (record { rows = rows; states = states; given = false }) (all_made files [] region p)
+pub made_none : (files : Files) (region : Range) (p : RunPlan) (rows : List Change) (states : List ReportRow) → rows ≡ [] → states ≡ [] → ◌≡◌ {A = MadeFiles} (record { rows = rows; states = states; given = false }) (run_made files [] region p)
 unfolding changes
 made_none files region p rows states none also = ap (λ (x : List Change). make x states false) none ∙ ap (λ (x : List ReportRow). make [] x false) also
 
 -- ---- the whole
 
 -- with what is made of all files
-pub rewritten_is : (files : Files) (ns : List (List ℕ)) (a : Asked) (p : RunPlan) (made : AllMade) → made ≡ all_made files ns a.region p → rewritten_with a p made ≡ rewritten files ns a p
+pub rewritten_is : (files : Files) (ns : List (List ℕ)) (a : Asked) (p : RunPlan) (made : MadeFiles) → made ≡ run_made files ns a.region p → rewritten_with a p made ≡ rewritten files ns a p
 unfolding next_cache report
 rewritten_is files ns a p made is = ap (rewritten_with a p) is
 

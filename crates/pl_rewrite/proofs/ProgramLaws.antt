@@ -32,19 +32,17 @@ use Rattle.pl_form.specs.declared.fault.FormFault.TheVariants.{TooLarge}
 use Rattle.pl_image.specs.Loads.{IsPlaced, pieces_at}
 use Rattle.pl_lists.specs.declared.conflict_row.ConflictRow.{ConflictRow}
 use Rattle.pl_lists.specs.declared.list_row.ListRow.{ListRow}
-use Rattle.pl_object.specs.declared.object.Object.{Object}
 use Rattle.pl_object.proofs.AcceptedLaws.{accepted}
 use Rattle.pl_tls.specs.declared.block.Block.{Block}
 use Rattle.pl_tls.specs.Layout.{offsets}
 use Rattle.pl_tls.specs.declared.fault.TlsFault.{TlsFault}
 use Rattle.pl_tls.specs.declared.module.Module.{Module}
-use Rattle.pl_scope.proofs.WalkedLaws.{limit_is}
 use Rattle.pl_value.specs.Meanings.{meanings}
 use Rattle.pl_value.specs.Ordinary.{ArePlaced, loaded_objects}
 use Rattle.pl_value.specs.declared.meaning.Meaning.{Meaning}
 use Rattle.pl_value.proofs.PlaceLaws.{relocs_held}
 use Rattle.pl_rewrite.specs.Fills.{fills, fills_of, memory_of}
-use Rattle.pl_rewrite.specs.Programs.{AreFirstFills, IsProgramSet, conflicts_with, form_of, result_ok}
+use Rattle.pl_rewrite.specs.Fills.{AreFirstFills, IsProgramSet, conflicts_with, form_of, result_ok}
 use Rattle.pl_rewrite.specs.Sources.{AreSources, firm}
 use Rattle.pl_rewrite.proofs.FillLaws.{are_fills, flat_same}
 use Rattle.pl_rewrite.proofs.FirmLaws.{accepted_all, own_all, version_back}
@@ -54,17 +52,9 @@ use Rattle.pl_rewrite.proofs.FirmLaws.{accepted_all, own_all, version_back}
 first_placed : (r : Firm) (rs : List Firm) → AreSources (r ∷ rs) → IsSet r rs → ArePlaced (slots_of (r ∷ rs)) (originals_of (r ∷ rs)) (objects_of (r ∷ rs))
 first_placed r rs are set = set_placed (r ∷ rs) (own_all (r ∷ rs) are) (and_from (has_numbers r) (list_all has_numbers rs) set.first set.numbers) set.apart
 
-pub first_is_placed : (all : List Firm) (r : Firm) (rs : List Firm) → all ≡ r ∷ rs → AreSources all → are_set all ≡ true → IsPlaced r.member.slot r.object
-first_is_placed all r rs is are set =
-    (first_placed r rs (subst AreSources is are) (set_is r rs (subst (λ (xs : List Firm). are_set xs ≡ true) is set))).placed 0 r.object (omega arith)
-
 no_set : are_set [] ≡ true → ⊥
 unfolding are_set
 no_set e = false≢true e
-
-pub some_set : (rs : List Firm) → are_set rs ≡ true → 0 < length rs
-some_set [] set = absurd (no_set set)
-some_set (r ∷ rs) set = omega arith
 
 pub originals_placed : (rs : List Firm) → AreSources rs → IsProgramSet rs → ArePlaced (slots_of rs) (originals_of rs) (objects_of rs)
 originals_placed [] are set = absurd (no_set set.set)
@@ -117,27 +107,15 @@ pub link_none : {X E F : Type 0} (fault : E → F) (r : Result X E) (e : F) → 
 link_none fault (Ok x) e is = absurd cc
 link_none fault (Err f) e is = refl
 
-pub link_some : {X E F : Type 0} (fault : E → F) (r : Result X E) (x : X) → because fault r ≡ Ok x → Some x ≡ result_ok r
-link_some fault (Ok y) x is = cc
-link_some fault (Err f) x is = absurd cc
-
 pub ok_of : {X E : Type 0} (r : Result X E) (x : X) → Some x ≡ result_ok r → r ≡ Ok x
 ok_of (Ok y) x is = cc
 ok_of (Err e) x is = absurd cc
-
-no_meanings : {E F : Type 0} (rs : List Firm) (m : Result (List Meaning) E) (c : Result (List ConflictRow) F) → None ≡ result_ok m → with_rows rs m c ≡ None
-no_meanings rs (Err e) c is = refl
-no_meanings rs (Ok gs) c is = absurd (none-some gs is)
 
 both_rows : {E F : Type 0} (rs : List Firm) (m : Result (List Meaning) E) (c : Result (List ConflictRow) F) (gs : List Meaning) (rows : List ConflictRow) → m ≡ Ok gs → c ≡ Ok rows → with_rows rs m c ≡ program_by rs gs rows
 both_rows rs m c gs rows is made = rw (is, made) refl
 
 abbrev of_program : List Firm → List Module → Option (List ℕ)
 of_program rs modules = with_rows rs (meanings (objects_of rs) (slots_of rs) modules) (conflicts (objects_of rs) (parts_of rs) (slots_of rs) modules)
-
-pub without_meanings : (rs : List Firm) (modules : List Module) → None ≡ result_ok (meanings (objects_of rs) (slots_of rs) modules) → None ≡ prelinked.stored (of_program rs modules)
-without_meanings rs modules is =
-    sym (ap prelinked.stored (no_meanings rs (meanings (objects_of rs) (slots_of rs) modules) (conflicts (objects_of rs) (parts_of rs) (slots_of rs) modules) is))
 
 no_rows : {E F : Type 0} (rs : List Firm) (m : Result (List Meaning) E) (c : Result (List ConflictRow) F) → None ≡ result_ok c → with_rows rs m c ≡ None
 no_rows rs (Err e) c is = refl
@@ -208,9 +186,6 @@ pub blocks_same : (rs : List Firm) → map (λ r. r.object.tls) rs ≡ map (λ o
 blocks_same [] = refl
 blocks_same (r ∷ rs) = ap (λ (bs : List (Option Block)). r.object.tls ∷ bs) (blocks_same rs)
 
-pub few_blocks : (rs : List Firm) (blocks : List (Option Block)) → AreSources rs → blocks ≡ map (λ r. r.object.tls) rs → length blocks < 2 ^ 32
-few_blocks rs blocks are is = omega (arith, ap length is, length-map rs (λ (r : Firm). r.object.tls), are.few, limit_is)
-
 -- the file by the modules
 pub modules_file : (rs : List Firm) (blocks : List (Option Block)) (modules given : List Module) → blocks ≡ map (λ r. r.object.tls) rs → offsets blocks ≡ Ok modules → given ≡ modules → prelinked.stored (prelinked.with_modules {E = TlsFault} rs (Ok given)) ≡ prelinked.stored (prelinked.program_file rs)
 unfolding prelinked.program_file
@@ -230,37 +205,13 @@ modules_none rs blocks e is refused =
 pub first_program : (r : Firm) (rs : List Firm) → AreSources (r ∷ rs) → is_library r.object.kind ≡ false → IsFirmProgram r.member.original r.object
 first_program r rs are other = firm_program r (own_all (r ∷ rs) are 0 r (omega arith)) other
 
-pub no_fills : (rs : List Firm) (gs : List Meaning) → length rs < 1 → [] ≡ fills_of rs (memory_of rs gs)
-no_fills [] gs none = refl
-no_fills (r ∷ rs) gs none = absurd (omega (arith, none))
-
 pub first_made : (all : List Firm) (r : Firm) (rs : List Firm) (gs : List Meaning) (fs : List Fill) → all ≡ r ∷ rs → fs ≡ fills (memory_of all gs) r.object.relocations → fs ≡ fills_of all (memory_of all gs)
 first_made all r rs gs fs is made = rw is (rw is at made)
 
-pub no_form : (rs : List Firm) (fs : List Fill) (rows : List ConflictRow) → length rs < 1 → None ≡ prelinked.stored (form_of rs fs rows)
-no_form [] fs rows none = refl
-no_form (r ∷ rs) fs rows none = absurd (omega (arith, none))
-
 -- ---- the form as it is written
 
-form_firm : (r : Firm) (rs : List Firm) (fs : List Fill) (rows : List ConflictRow) (list : List ListRow) (v : Version) → r.member.version ≡ number_of v → list ≡ list_of rs → Some (form.program_form r.member.original list fs rows v) ≡ form_of (r ∷ rs) fs rows
+pub form_firm : (r : Firm) (rs : List Firm) (fs : List Fill) (rows : List ConflictRow) (list : List ListRow) (v : Version) → r.member.version ≡ number_of v → list ≡ list_of rs → Some (form.program_form r.member.original list fs rows v) ≡ form_of (r ∷ rs) fs rows
 form_firm r rs fs rows list v version is =
     let same : version_of r.member.version ≡ v = ap version_of version ∙ version_back v in
     ap (λ (ls : List ListRow). Some (form.program_form r.member.original ls fs rows v)) is
     ∙ ap (λ (w : Version). Some (form.program_form r.member.original (list_of rs) fs rows w)) (sym same)
-
--- the same of a member's fields
-form_same : (r : Firm) (rs : List Firm) (fs : List Fill) (rows : List ConflictRow) (list : List ListRow) (name original : List ℕ) (object : Object) (v : Version) (slot stamp : ℕ) → firm name original object v slot stamp ≡ r → list ≡ list_of rs
-    → Some (form.program_form original list fs rows v) ≡ form_of (r ∷ rs) fs rows
-form_same r rs fs rows list name original object v slot stamp view is =
-    subst (λ (x : Firm). Some (form.program_form original list fs rows v) ≡ form_of (x ∷ rs) fs rows) view (form_firm (firm name original object v slot stamp) rs fs rows list v refl is)
-
-pub form_written : (r : Firm) (rs : List Firm) (fs : List Fill) (rows : List ConflictRow) (list : List ListRow) (name original : List ℕ) (object : Object) (v : Version) (slot stamp : ℕ) (file : List ℕ) → firm name original object v slot stamp ≡ r
-    → list ≡ list_of rs → form.stored (form.program_form original list fs rows v) ≡ Ok file → Some file ≡ prelinked.stored (form_of (r ∷ rs) fs rows)
-form_written r rs fs rows list name original object v slot stamp file view is made =
-    form_stored (form.program_form original list fs rows v) file made ∙ ap prelinked.stored (form_same r rs fs rows list name original object v slot stamp view is)
-
-pub form_refused : (r : Firm) (rs : List Firm) (fs : List Fill) (rows : List ConflictRow) (list : List ListRow) (name original : List ℕ) (object : Object) (v : Version) (slot stamp : ℕ) (e : FormFault) → firm name original object v slot stamp ≡ r
-    → list ≡ list_of rs → form.stored (form.program_form original list fs rows v) ≡ Err e → None ≡ prelinked.stored (form_of (r ∷ rs) fs rows)
-form_refused r rs fs rows list name original object v slot stamp e view is made =
-    form_too_large (form.program_form original list fs rows v) e made ∙ ap prelinked.stored (form_same r rs fs rows list name original object v slot stamp view is)

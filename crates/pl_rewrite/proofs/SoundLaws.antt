@@ -9,21 +9,21 @@ use Rattle.std.proofs.lemmas.List.Elements.{All-nil, All-cons, All-weaker}
 use Rattle.std.proofs.lemmas.Option.{none-some}
 use Rattle.pl_base.specs.Answers.{because}
 use Rattle.pl_base.proofs.AnswerLaws.{because_ok, ok_same, unless_ok}
-use Rattle.pl_cone.specs.Cone.{stamp_after}
-use Rattle.pl_cone.specs.Current.{slot_of}
-use Rattle.pl_cone.specs.declared.cone.TheConstants.{LAST_STAMP}
+use Rattle.pl_cone.specs.Plans.{stamp_after}
+use Rattle.pl_cone.specs.Plans.{slot_of}
+use Rattle.pl_cone.specs.declared.stamps.TheConstants.{LAST_STAMP}
 use Rattle.pl_cone.specs.declared.skip.ConeFault.TheVariants.{StampsSpent}
 use Rattle.pl_conflict.specs.Format.{format, mark_in, mark_of}
 use Rattle.pl_conflict.proofs.FormatLaws.{format_kept}
 use Rattle.pl_elf.specs.declared.range.Range.{Range}
 use Rattle.pl_form.specs.Files.{marked_in, original_or_file, original_in}
 use Rattle.pl_form.specs.declared.file.Marked.{Marked}
-use Rattle.pl_rewrite.specs.Fits.{fit_in}
-use Rattle.pl_rewrite.specs.Plans.{greatest, greatest_of, is_candidate, is_current, is_stale, stale, stamp_for}
-use Rattle.pl_rewrite.specs.Skips.{skip_causes}
-use Rattle.pl_cone.specs.Faults.{of_cone}
+use Rattle.pl_cone.specs.Fits.{fit_in}
+use Rattle.pl_cone.specs.Plans.{greatest, greatest_of, is_candidate, is_current, is_stale, stale, stamp_for}
+use Rattle.pl_cone.specs.Skipped.{skip_causes}
+use Rattle.pl_cone.specs.Faulted.{of_cone}
 use Rattle.pl_cone.specs.declared.asked.Asked.{Asked}
-use Rattle.pl_cone.specs.declared.run_plan.RunPlan.{RunPlan}
+use Rattle.pl_cone.specs.Plans.{RunPlan}
 use Rattle.pl_scope.specs.Members.{has}
 use Rattle.pl_scope.proofs.NameLaws.{same_name}
 use Rattle.law_sound.specs.History.{IsEdit}
@@ -34,7 +34,7 @@ use Rattle.law_sound.proofs.PlanLaws.{all_planned}
 use Rattle.law_sound.proofs.Theorems as theorems
 use Rattle.pl_rewrite.specs.Changes.{from_scratch, prelinked}
 use Rattle.pl_rewrite.specs.Laws.{AreNames, IsMixed, NamesStay, NextIsFromScratch, OriginalsStay, MixturesKeepTheRule}
-use Rattle.pl_rewrite.proofs.MadeLaws.{next_on, next_off, scratch_by}
+use Rattle.pl_rewrite.proofs.NextLaws.{next_on, next_off, scratch_by}
 use Rattle.pl_rewrite.proofs.NamedLaws.{passed_at}
 use Rattle.pl_rewrite.proofs.PlanLaws.{plan_stamp}
 

@@ -1,5 +1,5 @@
 -- The prelinked file by what members are.
-use Rattle.std.proofs.Common.{◌≡◌, ◌<◌, ℕ, Bool, true, false, List, [], ◌∷◌, length, Some, None, refl, sym, ap, subst, ◌∙◌, arith}
+use Rattle.std.proofs.Common.{◌≡◌, ◌<◌, ℕ, Bool, true, false, List, [], ◌∷◌, Some, None, refl, sym, ap, subst, ◌∙◌}
 use Rattle.std.specs.List.{All, list_all}
 use Rattle.std.proofs.lemmas.Bool.{and_from}
 use Rattle.pl_conflict.specs.Own.{own_words}
@@ -8,8 +8,8 @@ use Rattle.pl_conflict.specs.Prelinked.{Firm, are_set, file_of, has_numbers, lib
 use Rattle.pl_conflict.proofs.MemberLaws.{IsSet, set_is}
 use Rattle.pl_elf.specs.Kinds.{is_library}
 use Rattle.pl_form.specs.Back.{when}
-use Rattle.pl_rewrite.specs.Libraries.{HasFormWith, HasNumbers, IsLibraryWalk, file_with}
-use Rattle.pl_rewrite.specs.Programs.{IsProgramSet}
+use Rattle.pl_rewrite.specs.Forms.{HasFormWith, HasNumbers, IsLibraryWalk, file_with}
+use Rattle.pl_rewrite.specs.Fills.{IsProgramSet}
 use Rattle.pl_rewrite.specs.Sources.{AreSources, members}
 use Rattle.pl_rewrite.proofs.FirmLaws.{firm_all, true_all}
 use Rattle.pl_rewrite.proofs.LibraryLaws.{file_is, form_with}
@@ -27,18 +27,10 @@ prelinked_none rs are set = sym (whole rs are ∙ ap (λ (b : Bool). when b (sto
 
 -- ---- the file by the kind of the first
 
-pub no_whole : (rs : List Firm) → length rs < 1 → None ≡ stored (file_of rs)
-no_whole [] none = refl
-no_whole (r ∷ rs) none = absurd (omega (arith, none))
-
 library_first : (r : Firm) (rs : List Firm) → AreSources (r ∷ rs) → IsSet r rs → is_library r.object.kind ≡ true → IsLibraryWalk (r ∷ rs)
 library_first r rs are set library =
     let numbers : All HasNumbers (r ∷ rs) = true_all has_numbers (r ∷ rs) (and_from (has_numbers r) (list_all has_numbers rs) set.first set.numbers) in
     record { first = library; numbers = numbers; names = valid_of r rs are numbers set.list }
-
-pub whole_library : (all : List Firm) (r : Firm) (rs : List Firm) → all ≡ r ∷ rs → AreSources all → are_set all ≡ true → is_library r.object.kind ≡ true → IsLibraryWalk all
-whole_library all r rs is are set library =
-    subst IsLibraryWalk (sym is) (library_first r rs (subst AreSources is are) (set_is r rs (subst (λ (xs : List Firm). are_set xs ≡ true) is set)) library)
 
 pub whole_program : (all : List Firm) (r : Firm) (rs : List Firm) → all ≡ r ∷ rs → are_set all ≡ true → is_library r.object.kind ≡ false → IsProgramSet all
 whole_program all r rs is set program =

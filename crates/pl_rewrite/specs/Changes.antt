@@ -3,15 +3,15 @@ use Rattle.std.specs.Prelude.{ℕ, Bool, false, ◌&&◌, List, Option, Some, No
 use Rattle.std.specs.List.{filter_map, list_any}
 use Rattle.std.specs.Str.{bytes_eq}
 use Rattle.pl_cache.specs.declared.cache.Cache.{Cache}
-use Rattle.pl_cone.specs.Current.{slot_of}
+use Rattle.pl_cone.specs.Plans.{slot_of}
 use Rattle.pl_conflict.specs.Format.{format}
 use Rattle.pl_elf.specs.declared.range.Range.{Range}
 use Rattle.pl_journal.specs.declared.change.Change.{Change}
 use Rattle.pl_journal.specs.declared.change.Change.TheVariants.{Put}
-use Rattle.pl_rewrite.specs.Fits.{fit_in}
-use Rattle.pl_rewrite.specs.Plans.{is_current, is_stale}
-use Rattle.pl_rewrite.specs.Skips.{skip_causes}
-use Rattle.pl_cone.specs.declared.run_plan.RunPlan.{RunPlan}
+use Rattle.pl_cone.specs.Fits.{fit_in}
+use Rattle.pl_cone.specs.Plans.{is_current, is_stale}
+use Rattle.pl_cone.specs.Skipped.{skip_causes}
+use Rattle.pl_cone.specs.Plans.{RunPlan}
 use Rattle.law_sound.specs.Plan.{Plan, all, plan_of, planned_in}
 use Rattle.law_sound.specs.Rule.{Files}
 

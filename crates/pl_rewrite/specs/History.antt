@@ -7,10 +7,10 @@ use Rattle.pl_elf.specs.declared.range.Range.{Range}
 use Rattle.pl_form.specs.Files.{marked_in, original_in}
 use Rattle.pl_form.specs.declared.file.Marked.{Marked}
 use Rattle.pl_journal.specs.Meaning.{applied, mixed}
-use Rattle.pl_rewrite.specs.Plans.{planned}
-use Rattle.pl_rewrite.specs.Skips.{skip_causes}
+use Rattle.pl_cone.specs.Plans.{planned}
+use Rattle.pl_cone.specs.Skipped.{skip_causes}
 use Rattle.pl_cone.specs.declared.asked.Asked.{Asked}
-use Rattle.pl_cone.specs.declared.run_plan.RunPlan.{RunPlan}
+use Rattle.pl_cone.specs.Plans.{RunPlan}
 use Rattle.pl_scope.specs.Members.{has}
 use Rattle.law_sound.specs.History as sound
 use Rattle.law_sound.specs.History.{IsEdit, Held}

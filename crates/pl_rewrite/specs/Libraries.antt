@@ -1,58 +1,51 @@
--- The walk of a library, whose numbers and names are such as they may be.
-use Rattle.std.specs.Prelude.{◌≡◌, ℕ, ◌%◌, Bool, true, List, [], ◌∷◌, drop, length, Option, Some}
-use Rattle.std.specs.List.{All, AllZip, list_all}
-use Rattle.pl_base.specs.Names.{is_valid_name}
-use Rattle.pl_conflict.specs.Among.{AreHeld, HoldsAt}
-use Rattle.pl_conflict.specs.Own.{own_words}
-use Rattle.pl_conflict.specs.Prelinked.{Firm, are_set, has_numbers, objects_of, slots_of, version_of}
-use Rattle.pl_elf.specs.Kinds.{is_library}
-use Rattle.pl_form.specs.Library.{IsFirmLibrary, IsListing, library_form}
-use Rattle.pl_image.specs.Loads.{loaded_at}
-use Rattle.pl_lists.specs.declared.list_row.ListRow.{ListRow}
-use Rattle.pl_form.specs.Back.{when}
+-- The prelinked file of a library by itself.
+use Rattle.std.specs.Prelude.{◌≡◌, ⊤, ℕ, true, false, List, drop, Option, Some, None}
+use Rattle.std.specs.Option.{option_and_then}
+use Rattle.pl_cone.specs.Taken.{object_by}
+use Rattle.pl_cone.specs.declared.taken.Taken.{Taken}
+use Rattle.pl_conflict.specs.Format.{number_of}
+use Rattle.pl_conflict.specs.Prelinked.{Firm, are_set, list_of, stored}
+use Rattle.pl_form.specs.Files.{original_in}
+use Rattle.pl_form.specs.declared.version.Version.{Version}
+use Rattle.pl_object.specs.declared.object.Object.{Object}
+use Rattle.pl_rewrite.specs.Forms.{HasFormWith, file_with}
+use Rattle.pl_rewrite.specs.Rows.{IsFirmAt, firms_of}
+use Rattle.pl_rewrite.specs.RowWords.{own_words_at}
+use Rattle.pl_rewrite.specs.declared.numbers.Numbered.{Numbered}
+use Rattle.pl_rewrite.specs.declared.outcome.NewLibrary.{NewLibrary}
+use Rattle.sha2.specs.Sha256.{sha256}
 
-abbrev pub has_valid_name : Firm → Bool
-has_valid_name r = is_valid_name r.member.name
+-- what the file of a row's library is made of
+pub record IsNew (n : Numbered) (row : ℕ) (parts : NewLibrary) : Type 0 where
+  pub firm : Firm
+  pub at : IsFirmAt n row firm
+  pub slot : parts.slot ≡ firm.member.slot
+  pub stamp : parts.stamp ≡ firm.member.stamp
+  pub digest : parts.digest ≡ sha256 firm.member.original
+  pub list : parts.list ≡ list_of (drop 1 (firms_of n row))
+  pub words : parts.words ≡ own_words_at n row
+  pub form : HasFormWith firm parts.list parts.words
 
-abbrev pub HasNumbers : Firm → Type 0
-HasNumbers r = has_numbers r ≡ true
+-- there is none where the members of its walk cannot be prelinked together
+abbrev pub IsNewIfAny : Numbered → ℕ → Option NewLibrary → Type 0
+IsNewIfAny n row None = are_set (firms_of n row) ≡ false
+IsNewIfAny n row (Some parts) = (are_set (firms_of n row) ≡ true) × IsNew n row parts
 
-abbrev pub BeginsWithLibrary : List Firm → Type 0
-BeginsWithLibrary [] = Unit {0}
-BeginsWithLibrary (r ∷ rs) = is_library r.object.kind ≡ true
+-- ---- by the file that was taken
 
-pub record IsLibraryWalk (rs : List Firm) : Type 0 where
-  pub first : BeginsWithLibrary rs
-  pub numbers : All HasNumbers rs
-  pub names : list_all has_valid_name (drop 1 rs) ≡ true
+abbrev pub firm_of : Taken → NewLibrary → Version → Object → Firm
+firm_of t parts version o = record {
+  member = record { name = t.name; original = original_in t.bytes; version = number_of version; slot = parts.slot; stamp = parts.stamp };
+  object = o;
+}
 
--- a member is the first
-abbrev pub BeginsWith : List Firm → Firm → Type 0
-BeginsWith all r = (rs : List Firm) × (all ≡ r ∷ rs)
+abbrev pub HasFormBy : Taken → NewLibrary → Option Object → Type 0
+HasFormBy t parts None = ⊤
+HasFormBy t parts (Some o) = (version : Version) → HasFormWith (firm_of t parts version o) parts.list parts.words × (parts.digest ≡ sha256 (original_in t.bytes))
 
--- flags tell of the relocations of a library, the first of members, that its file holds their words at its slot
-abbrev pub AreHeldIn : List Firm → List ℕ → List Bool → List Bool → Type 0
-AreHeldIn [] file one_word flags = flags ≡ []
-AreHeldIn (r ∷ rs) file one_word flags = AreHeld (objects_of (r ∷ rs)) (slots_of (r ∷ rs)) (loaded_at r.member.slot file r.object ∷ []) one_word r.object.relocations flags
+abbrev pub HasForm : Taken → NewLibrary → Type 0
+HasForm t parts = HasFormBy t parts (object_by t.entry)
 
--- words of the relocations of a library, the first of members, that its file holds at their places, where it is loaded at its slot
-abbrev pub AreWordsIn : List Firm → List ℕ → List ℕ → Type 0
-AreWordsIn [] file words = words ≡ []
-AreWordsIn (r ∷ rs) file words = AllZip (HoldsAt (loaded_at r.member.slot file r.object ∷ []) r.member.slot) r.object.relocations words
-
--- ---- the file of a library by itself
-
--- with this list, and these words at its places
-abbrev pub file_with : Firm → List ListRow → List (Option ℕ) → List ℕ
-file_with r list words = library_form r.member.original r.member.slot r.member.stamp list words (version_of r.member.version)
-
--- it has a form with them
-pub record HasFormWith (r : Firm) (rows : List ListRow) (own : List (Option ℕ)) : Type 0 where
-  pub firm : IsFirmLibrary r.member.original r.object
-  pub even : r.member.slot % 2 ≡ 0
-  pub list : IsListing rows
-  pub words : length own ≡ length r.object.relocations
-
--- the own words of the first of members that can be prelinked together
-abbrev pub words_in : List Firm → Option (List (Option ℕ))
-words_in rs = when (are_set rs) (Some (own_words (objects_of rs) (slots_of rs)))
+-- its file, where it is no longer than a folder stores
+abbrev pub storable_library : Taken → NewLibrary → Version → Option (List ℕ)
+storable_library t parts version = option_and_then (λ o. stored (Some (file_with (firm_of t parts version o) parts.list parts.words))) (object_by t.entry)

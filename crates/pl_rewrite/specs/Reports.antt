@@ -10,9 +10,9 @@ use Rattle.pl_form.specs.declared.file.File.{File}
 use Rattle.pl_form.specs.declared.file.File.TheVariants as files
 use Rattle.pl_form.specs.declared.file.File.TheVariants.{Plain}
 use Rattle.pl_form.specs.declared.file.Marked.{Marked}
-use Rattle.pl_rewrite.specs.Plans.{is_current}
-use Rattle.pl_rewrite.specs.Skips.{skip_of}
-use Rattle.pl_cone.specs.declared.run_plan.RunPlan.{RunPlan}
+use Rattle.pl_cone.specs.Plans.{is_current}
+use Rattle.pl_cone.specs.Skipped.{skip_of}
+use Rattle.pl_cone.specs.Plans.{RunPlan}
 use Rattle.law_sound.specs.Rule.{Files}
 use Rattle.pl_rewrite.specs.Changes.{next}
 use Rattle.pl_rewrite.specs.declared.report.Report.{Report}

@@ -1,21 +1,22 @@
 -- A whole run: what it changes, the cache that it leaves, and what it reports.
-use Rattle.std.specs.Prelude.{ℕ, ◌||◌, if◌then◌else◌, List, [], ◌∷◌, ◌++◌, map, Result, Ok}
-use Rattle.std.specs.List.{AllZip, cons_option, list_any}
-use Rattle.pl_base.specs.Answers.{◌>>=◌}
-use Rattle.pl_rewrite.specs.Plans.{planned}
-use Rattle.pl_rewrite.specs.Taken.{AreTaken, files_in}
-use Rattle.pl_rewrite.specs.declared.taken.Taken.{Taken}
+use Rattle.std.specs.Prelude.{◌≡◌, ℕ, ◌||◌, Err, if◌then◌else◌, List, [], ◌∷◌, ◌++◌, map, Result, Ok}
+use Rattle.std.specs.List.{AllZip, list_any}
+use Rattle.pl_base.specs.Answers.{◌>>=◌, Answers}
+use Rattle.pl_cone.specs.Taken.{AreTaken, files_in, names_of}
+use Rattle.pl_cone.specs.declared.taken.Taken.{Taken}
 use Rattle.pl_cone.specs.declared.asked.Asked.{Asked}
 use Rattle.pl_cone.specs.declared.fault.PlanningFault.{PlanningFault}
-use Rattle.pl_cone.specs.declared.run_plan.RunPlan.{RunPlan}
+use Rattle.pl_cone.specs.Plans.{RunPlan, planned}
 use Rattle.law_sound.specs.Rule.{Files}
 use Rattle.pl_elf.specs.declared.range.Range.{Range}
 use Rattle.pl_rewrite.specs.Changes.{changes, is_given, next_cache}
-use Rattle.pl_rewrite.specs.Deciding.{IsDecidedIn}
+use Rattle.pl_cone.specs.Faulted.{is_memory}
+use Rattle.pl_cone.specs.declared.plan.RowPlan.{RowPlan}
+use Rattle.pl_rewrite.specs.Outcomes.{IsOutcome, planned_of}
 use Rattle.pl_rewrite.specs.Reports.{report, row_of}
-use Rattle.pl_rewrite.specs.declared.deciding.Decided.{Decided}
-use Rattle.pl_rewrite.specs.declared.making.AllMade.{AllMade}
-use Rattle.pl_rewrite.specs.declared.making.Made.{Made}
+use Rattle.pl_rewrite.specs.declared.outcome.RowOutcome.{RowOutcome}
+use Rattle.pl_rewrite.specs.declared.rewriting.Decided.{Decided}
+use Rattle.pl_rewrite.specs.declared.finishing.MadeFiles.{MadeFiles}
 use Rattle.pl_rewrite.specs.declared.rewriting.Rewritten.{Rewritten}
 
 abbrev pub rewritten : Files → List (List ℕ) → Asked → RunPlan → Rewritten
@@ -26,7 +27,7 @@ rewritten files ns a p = record {
 }
 
 -- with what is made of all files, and the cache that is left
-abbrev pub rewritten_with : Asked → RunPlan → AllMade → Rewritten
+abbrev pub rewritten_with : Asked → RunPlan → MadeFiles → Rewritten
 rewritten_with a p all = record {
   rows = all.rows;
   cache = record { last = if all.given then p.stamp else a.last; rows = p.slots };
@@ -38,22 +39,19 @@ unfoldable pub rewrite : Files → List (List ℕ) → Asked → Result Rewritte
 rewrite files ns a = planned files ns a >>= λ p. Ok (rewritten files ns a p)
 
 -- what a run makes of all files, beside its cache
-abbrev pub all_made : Files → List (List ℕ) → Range → RunPlan → AllMade
-all_made files ns region p = record {
+abbrev pub run_made : Files → List (List ℕ) → Range → RunPlan → MadeFiles
+run_made files ns region p = record {
   rows = changes files ns region p;
   states = map (row_of files region p) ns;
   given = list_any (is_given files region p) ns;
 }
 
--- with one name more
-abbrev pub with_made : AllMade → List ℕ → Made → AllMade
-with_made all n made = record {
-  rows = all.rows ++ cons_option made.change [];
-  states = all.states ++ record { name = n; state = made.state } ∷ [];
-  given = all.given || made.given;
-}
-
--- what is made of each of these files by what was decided of it is what the run makes of it
-pub record AreDecided (ts : List Taken) (a : Asked) (p : RunPlan) (ds : List Decided) : Type 0 where
+-- what is made of each of these files by its outcome is what the run makes of it
+pub record AreDecided (ts : List Taken) (a : Asked) (p : RowPlan) (os : List RowOutcome) : Type 0 where
   pub taken : AreTaken a.region ts
-  pub each : AllZip (IsDecidedIn (files_in ts) a.region p) ts ds
+  pub each : AllZip (IsOutcome (files_in ts) a.region (planned_of ts a p)) ts os
+
+-- a plan, and the outcome of each file by it; or the first cause why there is no plan
+abbrev pub Decides : List Taken → Asked → Result Decided PlanningFault → Type 0
+Decides ts a (Ok d) = (planned (files_in ts) (names_of ts) a ≡ Ok (planned_of ts a d.plan)) × AreDecided ts a d.plan d.outcomes.items
+Decides ts a (Err fault) = Answers is_memory (Err fault) (planned (files_in ts) (names_of ts) a)

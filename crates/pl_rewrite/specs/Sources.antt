@@ -1,9 +1,9 @@
 -- The members of a walk as they are handed in.
-use Rattle.std.specs.Prelude.{◌≡◌, ◌≤◌, ℕ, List, Some, map, length}
-use Rattle.std.specs.List.{All, IsDistinct}
+use Rattle.std.specs.Prelude.{◌≡◌, ◌≤◌, ℕ, true, List, [], ◌∷◌, Option, Some, map, length}
+use Rattle.std.specs.List.{All, AllZip, IsDistinct}
 use Rattle.std.specs.Str.{bytes_eq}
 use Rattle.pl_conflict.specs.Format.{number_of}
-use Rattle.pl_conflict.specs.Prelinked.{Firm, firm_of}
+use Rattle.pl_conflict.specs.Prelinked.{Firm, firm_of, is_version, prelinked}
 use Rattle.pl_form.specs.declared.version.Version.{Version}
 use Rattle.pl_object.specs.declared.object.Object.{Object}
 use Rattle.pl_scope.specs.declared.constants.TheConstants.{MAX_MEMBERS}
@@ -26,3 +26,27 @@ pub record AreSources (rs : List Firm) : Type 0 where
   pub few : length rs ≤ MAX_MEMBERS
   pub firm : All (λ r. firm_of r.member ≡ Some r) rs
   pub distinct : IsDistinct bytes_eq (member_names rs)
+
+-- ---- versions
+
+-- in a version of this number
+abbrev pub versioned : ℕ → Firm → Firm
+versioned number r = record {
+  member = record { name = r.member.name; original = r.member.original; version = number; slot = r.member.slot; stamp = r.member.stamp };
+  object = r.object;
+}
+
+abbrev pub IsVersionOf : Firm → Firm → Type 0
+IsVersionOf r s = (number : ℕ) × (is_version number ≡ true) × (s ≡ versioned number r)
+
+-- the same members, each in any version
+abbrev pub AreVersionsOf : List Firm → List Firm → Type 0
+AreVersionsOf rs ss = AllZip IsVersionOf rs ss
+
+abbrev pub BeginsIn : Version → List Firm → Type 0
+BeginsIn version [] = Unit {0}
+BeginsIn version (s ∷ ss) = s.member.version ≡ number_of version
+
+-- the file that the members prelink in a version of the first, whichever those of the others are
+abbrev pub IsPrelinkedIn : List Firm → Version → Option (List ℕ) → Type 0
+IsPrelinkedIn rs version file = (ss : List Firm) → AreVersionsOf rs ss → BeginsIn version ss → file ≡ prelinked (members ss)

@@ -1,22 +1,21 @@
 -- Whether a file is the prelinked file of the originals that are there.
-use Rattle.std.specs.Prelude.{ℕ, Bool, List, [], ◌∷◌, map, Option, Some, None, if◌then◌else◌}
-use Rattle.std.specs.Option.{option_map}
+use Rattle.std.specs.Prelude.{◌≡◌, ◌≤◌, ℕ, Bool, true, false, List, [], length, map, slice_get, Option, Some, None, is_some, if◌then◌else◌}
+use Rattle.std.specs.List.{list_all}
+use Rattle.std.specs.Str.{bytes_eq}
+use Rattle.std.specs.Option.{option_and_then}
 use Rattle.pl_conflict.specs.Format.{format}
-use Rattle.pl_conflict.specs.Prelinked.{Firm, joined}
-use Rattle.pl_elf.specs.declared.range.Range.{Range}
 use Rattle.pl_form.specs.declared.file.Marked.{Marked}
-use Rattle.pl_rewrite.specs.Agreement.{Knows}
-use Rattle.pl_rewrite.specs.Skips.{skip_causes}
-use Rattle.pl_rewrite.specs.Taken.{AreTaken, files_in}
-use Rattle.pl_rewrite.specs.declared.taken.Taken.{Taken}
-use Rattle.pl_object.specs.declared.object.Object.{Object}
-use Rattle.pl_rewrite.specs.Sources.{firm}
-use Rattle.pl_scope.specs.Walk.{Walked}
-use Rattle.pl_scope.specs.declared.member.Member.{Member}
+use Rattle.pl_cone.specs.Skipped.{skip_causes}
+use Rattle.pl_cone.specs.Taken.{files_in, marked_by}
+use Rattle.pl_cone.specs.declared.link.Link.{Link}
+use Rattle.pl_cone.specs.declared.taken.Taken.{Taken}
 use Rattle.law_sound.specs.Rule as sound
-use Rattle.law_sound.specs.Rule.{Files, member_at, original_at}
-use Rattle.pl_rewrite.specs.Members.{found, marked_by}
-use Rattle.pl_rewrite.specs.declared.verifying.View.{View}
+use Rattle.law_sound.specs.Rule.{Files, original_at}
+use Rattle.pl_form.specs.declared.version.Version.{Version}
+use Rattle.pl_rewrite.specs.Rows.{IsFileMeant, IsWalkRow, walk_of}
+use Rattle.pl_rewrite.specs.RowWords.{IsLinkAt, is_needed}
+use Rattle.pl_rewrite.specs.declared.numbers.Numbered.{Numbered}
+use Rattle.pl_rewrite.specs.declared.row_words.Needed.{Needed}
 
 -- the file of a name is marked, and is the prelinked file of its walk's originals, at the versions, slots and stamps that their files bear
 abbrev pub is_verified : Files → List ℕ → Bool
@@ -32,39 +31,62 @@ verified_original files n = if is_verified files n then Some (original_at (forma
 
 -- ---- files that were taken
 
--- they were taken under some region of slots, which does not matter here
-abbrev pub WereTaken : List Taken → Type 0
-WereTaken ts = (region : Range) × AreTaken region ts
+abbrev pub slot_by : Option Marked → ℕ
+slot_by None = 0
+slot_by (Some m) = m.slot
 
-abbrev pub viewed_files : View → Files
-viewed_files view = files_in view.files.now
+abbrev pub slot_borne : Taken → ℕ
+slot_borne t = slot_by (marked_by t.entry)
 
--- what is known of them is theirs
-pub record IsView (view : View) : Type 0 where
-  pub region : Range
-  pub taken : AreTaken region view.files.now
-  pub knows : Knows region (viewed_files view) view.known.now
+abbrev pub stamp_by : Option Marked → ℕ
+stamp_by None = 0
+stamp_by (Some m) = m.stamp
 
--- ---- the members of a walk, as their files bear them
+abbrev pub stamp_borne : Taken → ℕ
+stamp_borne t = stamp_by (marked_by t.entry)
 
-abbrev pub borne : Files → (List ℕ × Object) → Firm
-borne files m = record { member = member_at (format skip_causes) m.0 (files m.0); object = m.1 }
+abbrev pub is_marked_at : List Taken → ℕ → Bool
+is_marked_at ts row = is_some (option_and_then (λ t. marked_by t.entry) (slice_get ts row))
 
-abbrev pub all_borne : Files → Walked → List Firm
-all_borne files walked = map (borne files) walked
+abbrev pub are_marked : List Taken → List ℕ → Bool
+are_marked ts rows = list_all (is_marked_at ts) rows
 
--- by what was read of a file, if it is prelinked
-abbrev pub source_by : Taken → Object → Marked → Firm
-source_by t o m = firm t.name m.original o m.version m.slot m.stamp
+-- the numbers are those that the files bear
+pub record AreBorne (n : Numbered) : Type 0 where
+  pub places : n.places.now ≡ map slot_borne n.files.now
+  pub stamps : n.stamps.now ≡ map stamp_borne n.files.now
 
-abbrev pub source_of : Object → Option Taken → Option Firm
-source_of o None = None
-source_of o (Some t) = option_map (source_by t o) (marked_by t.entry)
+-- ---- the file that is meant of a row
 
-abbrev pub source : List Taken → Member → Option Firm
-source ts m = source_of m.object.now (found ts m.name)
+-- a row that has a walk is the first of it, and its members have forms
+abbrev pub IsWalkOrNone : Numbered → ℕ → Type 0
+IsWalkOrNone n row = 1 ≤ length (walk_of n row) → IsWalkRow n row
 
--- all of them, where each file is prelinked
-abbrev pub sources : List Taken → List Member → Option (List Firm)
-sources ts [] = Some []
-sources ts (m ∷ ms) = joined (source ts m) (sources ts ms)
+-- none where there is no walk
+pub record IsMeantOrNone (n : Numbered) (row : ℕ) (version : Version) (file : Option (List ℕ)) : Type 0 where
+  pub none : walk_of n row ≡ [] → file ≡ None
+  pub meant : IsWalkRow n row → IsFileMeant n row version file
+
+-- where the file of the row bears the version
+abbrev pub IsMeantIn : List Taken → ℕ → Version → Option (List ℕ) → Type 0
+IsMeantIn ts row version file = (t : Taken) (m : Marked) → slice_get ts row ≡ Some t → marked_by t.entry ≡ Some m → m.version ≡ version → file ≡ prelinked_in (files_in ts) t.name
+
+abbrev pub is_same : Option (List ℕ) → List ℕ → Bool
+is_same None bytes = false
+is_same (Some file) bytes = bytes_eq file bytes
+
+-- the file of a row is prelinked, and this is its mark
+abbrev pub IsMarkOf : List Taken → ℕ → Marked → Type 0
+IsMarkOf ts row m = (t : Taken) → slice_get ts row ≡ Some t → marked_by t.entry ≡ Some m
+
+abbrev pub IsOriginalIfMeant : List Taken → ℕ → Option (List ℕ) → Type 0
+IsOriginalIfMeant ts row original = (t : Taken) → slice_get ts row ≡ Some t → original ≡ verified_original (files_in ts) t.name
+
+-- ---- what the relocations of rows find
+
+-- each row that is needed has a walk
+abbrev pub HaveNeededWalks : Numbered → Needed → Type 0
+HaveNeededWalks n needed = (row : ℕ) → is_needed needed row ≡ true → IsWalkRow n row
+
+abbrev pub IsLinkIf : Numbered → Needed → ℕ → Link → Type 0
+IsLinkIf n needed row l = is_needed needed row ≡ true → IsLinkAt n row l

@@ -1,16 +1,20 @@
--- The own words of a library, by the words that its prelinked file holds at the places of its relocations.
-use Rattle.std.specs.Prelude.{ℕ, Bool, List, [], ◌∷◌, Option, Some, None, if◌then◌else◌}
-use Rattle.pl_rewrite.specs.declared.running.FileParts.{FileParts}
+-- Words that may be there, as they are kept.
+use Rattle.std.specs.Prelude.{ℕ, Bool, List, map, Option, Some, None, if◌then◌else◌}
+use Rattle.std.specs.List.{zip}
+use Rattle.std.specs.Option.{is_some, unwrap_or}
 
--- the word that is held, where it is the relocation's own; else there is none
 abbrev pub word_by : ℕ → Bool → Option ℕ
-word_by held own = if own then Some held else None
+word_by word given = if given then Some word else None
 
--- one for each, as far as both are there
+-- one for each number and whether there is one
 unfoldable pub words_by : List ℕ → List Bool → List (Option ℕ)
-words_by [] own = []
-words_by (w ∷ held) [] = []
-words_by (w ∷ held) (b ∷ own) = word_by w b ∷ words_by held own
+words_by words given = map (λ p. word_by p.0 p.1) (zip words given)
 
-abbrev pub own_words_of : FileParts → List (Option ℕ)
-own_words_of parts = words_by parts.held parts.own
+abbrev pub number_of : Option ℕ → ℕ
+number_of word = unwrap_or word 0
+
+abbrev pub numbers_of : List (Option ℕ) → List ℕ
+numbers_of words = map number_of words
+
+abbrev pub givens_of : List (Option ℕ) → List Bool
+givens_of words = map is_some words

@@ -1,166 +1,257 @@
-// What is made of files by what was decided of them; each is let go in its turn.
-ghost use Rattle.std.specs.Prelude.{◌≡◌, ◌<◌, ◌^◌, length, map, Some, IfOk};
-ghost use Rattle.std.specs.Option.{option_map};
-ghost use Rattle.pl_form.specs.Files.{file_in, marked_in, original_in};
+// What is made of files by their outcomes; each file is let go in its turn.
+ghost use Rattle.std.specs.Prelude.{◌≡◌, ◌++◌, [], ◌||◌, IfOk, OnOk, Some};
+ghost use Rattle.std.specs.List.{All, cons_option};
+ghost use Rattle.pl_cone.specs.Taken.{HasItsEntry, files_in, names_of};
 ghost use Rattle.pl_rewrite.specs.Changes as changes;
-ghost use Rattle.pl_rewrite.specs.Finishing as spec;
+ghost use Rattle.pl_rewrite.specs.Outcomes as told;
+ghost use Rattle.pl_rewrite.specs.Rewriting as spec;
 
-use crate::deciding::Decided;
-use crate::making::{Made, put};
-use crate::parts::own_words_of;
-use crate::running::FileParts;
-use crate::states::{state_by_form, too_large};
-use crate::{RowState, Source, Taken, prelink_library};
+use crate::library::storable_library;
+use crate::outcome::{NewLibrary, NewProgram, RowOutcome};
+use crate::outcomes::too_large;
+use crate::rewriting::Rewritten;
+use crate::{Report, ReportRow, RowState};
 use pl_base::{Rows, Text};
-use pl_form::{File, FileFault, Version, read_file};
+use pl_cache::Cache;
+use pl_cone::{Asked, RowPlan, Skip, Taken};
+use pl_form::Version;
 use pl_io::NoMemory;
-use pl_object::{Object, Refusal};
+use pl_journal::Change;
 use std::alloc::{AllocError, Global};
 
-/// A file by its name and its bytes alone.
+/// What a run makes of one file.
 #[derive(Drop)]
-pub struct Bare {
-    pub name: Text,
-    pub bytes: Rows<u8>,
+pub struct Made {
+    /// Its row in the journal; None where its bytes would not change.
+    pub change: Option<Change>,
+
+    /// What is reported of it.
+    pub state: RowState,
+
+    /// Whether it gets the stamp of the run.
+    pub given: bool,
 }
 
-/// The files without what is known of them, which is let go.
-pub fn all_bare(alloc: Global, files: Vec<Taken>) -> Result<Vec<Bare>, AllocError>
-    ensures { IfOk result (λ v. v.items ≡ map spec.bare_of files.items) }
+/// What a run makes of all files.
+#[derive(Drop)]
+pub struct MadeFiles {
+    /// The rows of the journal.
+    pub rows: Rows<Change>,
+
+    /// What is reported.
+    pub states: Rows<ReportRow>,
+
+    /// Whether a file gets the stamp of the run.
+    pub given: bool,
+}
+
+/// The row that gives a name other bytes than its old ones; None where they are the same.
+fn put(alloc: Global, name: &str, old: &[u8], bytes: Vec<u8>) -> Result<Option<Change>, AllocError>
+    ensures { IfOk result (λ row. row
+        ≡ changes.put (Some old.now) name.now (Some bytes.items)) }
 {
-    let mut all = Vec::new(alloc);
-    for taken in files {
-        let Taken { name, bytes, .. } = taken;
-        all.push(Bare { name, bytes })?;
+    if old == bytes.as_slice() {
+        return Ok(None);
     }
-    Ok(all)
+    Ok(Some(Change::Put {
+        name: Text::copy_of(alloc, name)?,
+        bytes: Rows::from_vec(bytes),
+    }))
 }
 
-/// A file whose form would be too large gets its original.
-fn made_large(alloc: Global, bare: &Bare, original: &[u8]) -> Result<Made, AllocError>
-    requires { original.now ≡ original_in bare.now.bytes }
-    ensures { IfOk result (λ made. made ≡ spec.made_large bare.now) }
+/// A copy of bytes.
+fn copy_of(alloc: Global, bytes: &[u8]) -> Result<Vec<u8>, AllocError>
+    ensures { IfOk result (λ v. v.items ≡ bytes.now) }
 {
-    let bytes = Vec::from_slice(alloc, original)?;
+    Ok(Vec::from_slice(alloc, bytes)?)
+}
+
+/// The row that gives a file its original; None where it is its own.
+fn put_original(alloc: Global, taken: &Taken) -> Result<Option<Change>, AllocError>
+    requires { HasItsEntry taken.now }
+    ensures { IfOk result (λ row. row ≡ told.put_original taken.now) }
+{
+    let Some(marked) = taken.marked() else {
+        return Ok(None);
+    };
+    let own = marked.original.as_slice();
+    let original = copy_of(alloc, own)?;
+    let name = taken.name.as_str();
+    let old = taken.bytes.as_slice();
+    put(alloc, name, old, original)
+}
+
+/// A file that gets its original, for a cause. Any file but a prelinked one is its own.
+fn made_original(alloc: Global, taken: &Taken, cause: Skip) -> Result<Made, AllocError>
+    requires { HasItsEntry taken.now }
+    ensures { IfOk result (λ made. made ≡ told.made_original taken.now cause) }
+{
     Ok(Made {
-        change: put(alloc, bare.name.as_str(), bare.bytes.as_slice(), bytes)?,
-        state: RowState::Skipped(too_large(alloc, bare.name.as_str())?),
+        change: put_original(alloc, taken)?,
+        state: RowState::Skipped(cause),
         given: false,
     })
 }
 
-/// A file that is prelinked anew.
-fn made_new(alloc: Global, bare: &Bare, file: Vec<u8>) -> Result<Made, NoMemory>
-    requires { length file.items < 2 ^ 32 }
-    ensures { IfOk result (λ made. made ≡ spec.made_new bare.now file.items) }
+/// A file whose form would be too large.
+fn made_large(alloc: Global, taken: &Taken) -> Result<Made, AllocError>
+    requires { HasItsEntry taken.now }
+    ensures { IfOk result (λ made. made ≡ told.made_original taken.now (told.too_large taken.now)) }
 {
-    let state = state_by_form(alloc, bare.name.as_str(), &file)?;
+    let cause = too_large(alloc, taken)?;
+    made_original(alloc, taken, cause)
+}
+
+/// A program that is prelinked anew.
+fn made_program(alloc: Global, taken: &Taken, program: NewProgram) -> Result<Made, AllocError>
+    ensures { IfOk result (λ made. made ≡ told.made_program taken.now program) }
+{
+    let NewProgram { file, conflicts } = program;
     Ok(Made {
-        change: put(alloc, bare.name.as_str(), bare.bytes.as_slice(), file)?,
-        state,
+        change: put(alloc, taken.name.as_str(), taken.bytes.as_slice(), file)?,
+        state: RowState::Program {
+            current: false,
+            conflicts,
+        },
         given: true,
     })
 }
 
-/// A library that is prelinked anew. Its file is not read for its row.
-fn made_library(
+/// A library that is prelinked anew, with its file.
+fn made_file(
     alloc: Global,
-    bare: &Bare,
-    parts: &FileParts,
+    taken: &Taken,
+    parts: &NewLibrary,
     file: Vec<u8>,
 ) -> Result<Made, AllocError>
-    ensures { IfOk result (λ made. made ≡ spec.made_library bare.now parts.now file.items) }
+    ensures { IfOk result (λ made. made
+        ≡ told.made_with taken.now parts.now (Some file.items)) }
 {
-    let state = RowState::Library {
-        current: false,
-        slot: parts.slot,
-        stamp: parts.stamp,
-    };
     Ok(Made {
-        change: put(alloc, bare.name.as_str(), bare.bytes.as_slice(), file)?,
-        state,
+        change: put(alloc, taken.name.as_str(), taken.bytes.as_slice(), file)?,
+        state: RowState::Library {
+            current: false,
+            slot: parts.slot,
+            stamp: parts.stamp,
+        },
         given: true,
     })
 }
 
-/// The prelinked file of a library of its original and these parts; None where it is longer than a folder stores.
-fn storable_library(
-    alloc: Global,
-    name: &str,
-    original: &[u8],
-    object: &Object,
-    parts: &FileParts,
-) -> Result<Option<Vec<u8>>, NoMemory>
-    requires { spec.HasForm name.now original.now object.now parts.now }
-    ensures { IfOk result (λ file. option_map (λ v. v.items) file
-        ≡ spec.storable_library name.now original.now object.now parts.now) }
+/// A library that is prelinked anew; one whose file would be too large gets its original.
+fn made_library(alloc: Global, taken: &Taken, parts: &NewLibrary) -> Result<Made, NoMemory>
+    requires read { HasItsEntry taken.now }
+    requires form { told.HasLibraryForm taken.now parts.now }
+    ensures { IfOk result (λ made. made ≡ told.made_library taken.now parts.now) }
 {
-    let words = own_words_of(alloc, parts)?;
-    let library = Source {
+    match storable_library(alloc, taken, parts, Version::Two)? {
+        None => Ok(made_large(alloc, taken)?),
+        Some(file) => Ok(made_file(alloc, taken, parts, file)?),
+    }
+}
+
+/// What a run makes of a file, by its outcome.
+fn made_last(alloc: Global, taken: &Taken, outcome: RowOutcome) -> Result<Made, NoMemory>
+    requires read { HasItsEntry taken.now }
+    requires may { told.MayBe taken.now outcome }
+    ensures { IfOk result (λ made. made ≡ told.made_by taken.now outcome) }
+{
+    match outcome {
+        RowOutcome::Unchanged(state) => Ok(Made {
+            change: None,
+            state,
+            given: false,
+        }),
+        RowOutcome::Original(cause) => Ok(made_original(alloc, taken, cause)?),
+        RowOutcome::Program(program) => Ok(made_program(alloc, taken, program)?),
+        RowOutcome::Library(parts) => made_library(alloc, taken, &parts),
+    }
+}
+
+/// Adds a row, where there is one.
+fn add_row(rows: &mut Rows<Change>, row: Option<Change>) -> Result<(), AllocError>
+    ensures { OnOk result (rows.new ≡ rows.old ++ cons_option row []) }
+{
+    match row {
+        None => Ok(()),
+        Some(row) => rows.push(row),
+    }
+}
+
+/// Adds what a run makes of the file of a name.
+fn add_made(all: MadeFiles, name: Text, made: Made) -> Result<MadeFiles, AllocError>
+    ensures { IfOk result (λ more. more ≡ told.with_made all name made) }
+{
+    let MadeFiles {
+        mut rows,
+        mut states,
+        given,
+    } = all;
+    add_row(&mut rows, made.change)?;
+    states.push(ReportRow {
         name,
-        original,
-        object,
-        version: Version::Two,
-        slot: parts.slot,
-        stamp: parts.stamp,
-    };
-    prelink_library(
-        alloc,
-        &library,
-        parts.list.as_slice(),
-        words.as_slice(),
-        &parts.digest,
-    )
+        state: made.state,
+    })?;
+    Ok(MadeFiles {
+        rows,
+        states,
+        given: given || made.given,
+    })
 }
 
-/// A library by its original.
-fn made_by(
+/// What a run makes of its files by their outcomes.
+fn all_made(
     alloc: Global,
-    bare: &Bare,
-    original: &[u8],
-    object: &Object,
-    parts: &FileParts,
-) -> Result<Made, NoMemory>
-    requires original { original.now ≡ original_in bare.now.bytes }
-    requires form { spec.HasForm bare.now.name original.now object.now parts.now }
-    ensures { IfOk result (λ made. made ≡ spec.made_with bare.now parts.now
-        (spec.storable_library bare.now.name original.now object.now parts.now)) }
+    files: Rows<Taken>,
+    outcomes: Vec<RowOutcome>,
+) -> Result<MadeFiles, NoMemory>
+    requires read { All HasItsEntry files }
+    requires may { told.MayBeAll files outcomes.items }
+    ensures { IfOk result (λ all. all ≡ told.all_made files outcomes.items) }
 {
-    match storable_library(alloc, bare.name.as_str(), original, object, parts)? {
-        None => Ok(made_large(alloc, bare, original)?),
-        Some(file) => Ok(made_library(alloc, bare, parts, file)?),
+    let mut outcomes = outcomes.into_iter();
+    let mut all = MadeFiles {
+        rows: Rows::new(alloc),
+        states: Rows::new(alloc),
+        given: false,
+    };
+    let items = files.into_vec();
+    for taken in items {
+        if let Some(outcome) = outcomes.next() {
+            let made = made_last(alloc, &taken, outcome)?;
+            let Taken { name, .. } = taken;
+            all = add_made(all, name, made)?;
+        }
     }
+    Ok(all)
 }
 
-/// A library that is prelinked anew, of what its bytes are.
-fn made_left(alloc: Global, bare: &Bare, parts: &FileParts) -> Result<Made, NoMemory>
-    requires { spec.MayBeLeft bare.now parts.now }
-    ensures { IfOk result (λ made. made ≡ spec.made_left bare.now parts.now) }
+/// The stamp of the cache after a run.
+fn last_of(asked: &Asked<'_>, plan: &RowPlan, made: &MadeFiles) -> u32
+    ensures { result ≡ (if made.now.given then plan.now.stamp else asked.now.last) }
 {
-    let bytes = bare.bytes.as_slice();
-    match read_file(alloc, bytes) {
-        Ok(File::Plain(object)) => made_by(alloc, bare, bytes, &object, parts),
-        Ok(File::Marked(marked)) => made_by(
-            alloc,
-            bare,
-            marked.original.as_slice(),
-            &marked.object,
-            parts,
-        ),
-        Err(FileFault::Refused(Refusal::NoMemory)) => Err(NoMemory),
-        Err(FileFault::Refused(Refusal::Clause { .. })) => Ok(made_large(alloc, bare, bytes)?),
-        Err(FileFault::BadMark) => Ok(made_large(alloc, bare, bytes)?),
-    }
+    if made.given { plan.stamp } else { asked.last }
 }
 
-/// What a run makes of a file, by what was decided of it.
-pub fn made_last(alloc: Global, bare: &Bare, decided: Decided) -> Result<Made, NoMemory>
-    requires { spec.MayBeLast bare.now decided }
-    ensures { IfOk result (λ made. made ≡ spec.made_last bare.now decided) }
+/// What a run makes of its files by their outcomes, with the cache that it leaves. Each file is let go once its new one is there. It fails only for want of memory.
+pub fn finish(
+    alloc: Global,
+    files: Rows<Taken>,
+    asked: &Asked<'_>,
+    plan: RowPlan,
+    outcomes: Vec<RowOutcome>,
+) -> Result<Rewritten, NoMemory>
+    requires { spec.AreDecided files asked.now plan outcomes.items }
+    ensures { IfOk result (λ all. all ≡ spec.rewritten (files_in files) (names_of files) asked.now
+        (told.planned_of files asked.now plan)) }
 {
-    match decided {
-        Decided::Made(made) => Ok(made),
-        Decided::File(file) => made_new(alloc, bare, file),
-        Decided::Library(parts) => made_left(alloc, bare, &parts),
-    }
+    let made = all_made(alloc, files, outcomes)?;
+    let last = last_of(asked, &plan, &made);
+    let MadeFiles { rows, states, .. } = made;
+    let RowPlan { slots, .. } = plan;
+    Ok(Rewritten {
+        rows,
+        cache: Cache { last, rows: slots },
+        report: Report { rows: states },
+    })
 }

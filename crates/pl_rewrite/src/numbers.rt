@@ -1,70 +1,72 @@
-// The numbers and the names of members.
-ghost use Rattle.std.specs.Prelude.{◌≡◌, ◌<◌, ◌+◌, ◌%◌, ◌^◌, ◌==◌, ◌&&◌, nat_le};
-ghost use Rattle.std.specs.List.{All, list_all};
-ghost use Rattle.pl_conflict.specs.Prelinked as spec;
-ghost use Rattle.pl_elf.specs.declared.constants.TheConstants.{ADDRESS_LIMIT};
-ghost use Rattle.pl_rewrite.specs.Libraries.{has_valid_name};
+// The slots and stamps of files.
+ghost use Rattle.std.specs.Prelude.{◌≡◌, IfOk};
+ghost use Rattle.pl_rewrite.specs.Rows as spec;
 
-use crate::Source;
-use pl_base::{end, is_valid_name};
-use pl_elf::constants::ADDRESS_LIMIT;
+use pl_base::Rows;
+use pl_cone::{Taken, WalkScope};
+use pl_scope::Index;
+use pl_value::Places;
+use std::alloc::{AllocError, Global};
 
-/// Whether a library of this alignment and span may stand at a slot: it is a multiple of the alignment, and the library ends there at or below the limit of addresses.
-fn is_placed(slot: u64, align: u64, span: u64) -> bool
-    requires { 0 < align }
-    ensures { result ≡ (slot % align == 0 && nat_le (slot + span) ADDRESS_LIMIT) }
-{
-    slot % align == 0 && end(slot, span) <= u128::from(ADDRESS_LIMIT)
+/// The files of a table with the slots and stamps that they have or get. The columns have one row for each file.
+#[derive(Clone, Copy)]
+pub struct Numbered<'t> {
+    pub files: &'t [Taken],
+
+    /// The rows of the members of each name's walk, its own first; none where the walk is refused.
+    pub walks: &'t [Rows<u32>],
+
+    /// The rows of the objects that define a name, by its hash.
+    pub index: &'t Index,
+
+    /// The address at which each file's library is loaded; 0 for a program.
+    pub places: &'t [u64],
+
+    /// When each file's library was prelinked; 0 for a program.
+    pub stamps: &'t [u32],
 }
 
-fn is_at_zero(slot: u64, stamp: u32) -> bool
-    ensures { result ≡ (slot == 0 && stamp == 0) }
-{
-    slot == 0 && stamp == 0
+/// The walk of a file that is worked on.
+#[derive(Drop)]
+pub struct PlacedWalk<'f> {
+    /// Its scope.
+    pub walk: WalkScope<'f>,
+
+    /// The places of the members.
+    pub places: Places,
 }
 
-fn stamp_of(source: &Source<'_>) -> u32
-    ensures value { result ≡ source.now.member.stamp }
-    ensures low { result < 2 ^ 32 }
+/// The places of the members of a walk.
+fn places_of(alloc: Global, places: &[u64], walk: &[u32]) -> Result<Places, AllocError>
+    requires { spec.AreInColumn places.now walk.now }
+    ensures { IfOk result (λ v. v ≡ spec.places_of places.now walk.now) }
 {
-    source.stamp
-}
-
-/// Whether the slot of a library is such a one, and a program has slot and stamp 0.
-pub fn has_numbers(source: &Source<'_>) -> bool
-    requires { 0 < source.now.object.align }
-    ensures { result ≡ spec.has_numbers source.now }
-{
-    let object = source.object;
-    let stamp = stamp_of(source);
-    if object.kind.is_library() {
-        is_placed(source.slot, object.align, object.span)
-    } else {
-        is_at_zero(source.slot, stamp)
+    let mut rows = Rows::new(alloc);
+    for row in walk {
+        rows.push(places[*row as usize])?;
     }
+    Ok(Places::new(rows))
 }
 
-pub fn all_have_numbers(sources: &[Source<'_>]) -> bool
-    requires { All (λ r. 0 < r.object.align) sources.now }
-    ensures { result ≡ list_all spec.has_numbers sources.now }
-{
-    for source in sources {
-        if !has_numbers(source) {
-            return false;
+impl<'t> Numbered<'t> {
+    /// The rows of the walk of a row; none where that is refused.
+    pub fn walk(&self, row: usize) -> &'t [u32]
+        ensures { result.now ≡ spec.walk_of self.now row }
+    {
+        match self.walks.get(row) {
+            None => &[],
+            Some(walk) => walk.as_slice(),
         }
     }
-    true
-}
 
-fn is_named_well(source: &Source<'_>) -> bool
-    ensures { result ≡ has_valid_name source.now }
-{
-    is_valid_name(source.name.as_bytes())
-}
-
-/// Whether the names of members are valid.
-pub fn all_have_names(sources: &[Source<'_>]) -> bool
-    ensures { result ≡ list_all has_valid_name sources.now }
-{
-    sources.iter().all(|source| is_named_well(source))
+    /// The scope of the walk of a row, with the places of its members.
+    pub fn placed(&self, alloc: Global, row: usize) -> Result<PlacedWalk<'t>, AllocError>
+        requires { spec.IsNumbered self.now }
+        ensures { IfOk result (spec.IsPlacedWalk self.now row) }
+    {
+        let rows = self.walk(row);
+        let walk = WalkScope::of(alloc, self.files, rows)?;
+        let places = places_of(alloc, self.places, rows)?;
+        Ok(PlacedWalk { walk, places })
+    }
 }

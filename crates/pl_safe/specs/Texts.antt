@@ -13,11 +13,11 @@ use Rattle.pl_cli.specs.Cause.TheVariants as causes
 use Rattle.pl_conflict.specs.Format.{is_fast}
 use Rattle.law_folder.specs.Sound.{KeepsTheRule}
 use Rattle.law_folder.specs.Steps.{IsPastAll}
-use Rattle.pl_rewrite.specs.Skips.{skip_causes}
 use Rattle.law_loads.specs.Started.{Start, load}
 use Rattle.law_loads.specs.LoadFault.TheVariants.{NotThere}
 use Rattle.law_loads.specs.LoadingFolder.{loading_folder}
 use Rattle.law_loads.specs.Weaves.{file_seen}
+use Rattle.pl_cone.specs.Skipped.{skip_causes}
 use Rattle.law_loads.specs.Paths.{ordinary_load}
 use Rattle.pl_place.specs.Policies.{lowest}
 use Rattle.law_loads.specs.Given.{given_from}

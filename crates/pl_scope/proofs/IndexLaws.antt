@@ -1,13 +1,12 @@
 -- The index of a scope, and the search by it.
 use Rattle.std.proofs.Common.{◌≡◌, ◌≢◌, ℕ, zero, suc, ◌+◌, ◌-◌, ◌<◌, ◌≤◌, Bool, true, false, ◌&&◌, cond, List, [], ◌∷◌, ◌++◌, length, take, drop, get_or, Option, Some, None, refl, sym, ap, ◌∙◌, subst, arith, append_assoc, inl, inr}
-use Rattle.std.specs.Prelude.{slice_get, nat_le, nat_lt, ◌==◌, is_some, IfSome, ◌⊎◌}
+use Rattle.std.specs.Prelude.{slice_get, nat_le, nat_lt, ◌==◌, IfSome, ◌⊎◌}
 use Rattle.std.specs.Option.{option_or, option_to_list}
-use Rattle.std.specs.List.{All, list_any, filter_map, range_with_len}
+use Rattle.std.specs.List.{All, list_any, filter, filter_map, range_with_len}
 use Rattle.std.specs.List.Sorted.{IsNonDecreasingBy, IsPartitionPoint, IsPermutation}
-use Rattle.std.proofs.lemmas.Bool.{cases_Bool, false≢true, and_parts, or_left, or_right, or_cases, eqb-true, eqb-false, eq-eqb, leb-true, leb-false, ltb-true, ltb-false, le-leb, lt-ltb}
-use Rattle.std.proofs.lemmas.Bool.Decides.{nat_tests}
-use Rattle.std.proofs.lemmas.List.{take_more, take_all, append-nil, at_drop_more, at_drop_all, length-take, length-drop, get_or-take, get_or-drop}
-use Rattle.std.proofs.lemmas.List.Elements.{All-append, All-take, All-drop, All-nil, filter_map-append}
+use Rattle.std.proofs.lemmas.Bool.{cases_Bool, false≢true, and_parts, or_left, or_right, or_cases, eqb-true, eqb-false, eq-eqb, ne_eqb, leb-true, ltb-true, ltb-false, le-leb, lt-ltb}
+use Rattle.std.proofs.lemmas.List.{take_more, take_all, take-append-drop, append-nil, at_drop_more, at_drop_all, length-take, length-drop, get_or-take, get_or-drop}
+use Rattle.std.proofs.lemmas.List.Elements.{All-append, All-take, All-drop, All-nil, filter-append, filter_map-append}
 use Rattle.std.proofs.lemmas.List.Folds.{Any-from_list_any, list_any_at, list_any-append}
 use Rattle.std.proofs.lemmas.List.Sorted.{list_any-IsPermutation, All-permutation}
 use Rattle.std.proofs.lemmas.Option.{slice_get_within, get_or_from_slice_get}
@@ -15,13 +14,12 @@ use Rattle.pl_base.proofs.MemoryLaws.{All-filter_map, any-filter_map, is_some_an
 use Rattle.pl_sym.specs.Definers.{is_definer}
 use Rattle.pl_sym.specs.declared.symbol.Symbol.{Symbol}
 use Rattle.pl_sym.specs.declared.class.Class.{Class}
-use Rattle.pl_sym.specs.declared.class.Class.TheVariants.{Jump, Other}
+use Rattle.pl_sym.specs.declared.class.Class.TheVariants.{Other}
 use Rattle.pl_hash.specs.Hash.{gnu}
 use Rattle.pl_elf.specs.Kinds.{is_program}
 use Rattle.pl_object.specs.declared.object.Object.{Object}
-use Rattle.pl_scope.specs.Matching.{matching}
 use Rattle.pl_scope.specs.Finds.{in_member, first_in, from_member}
-use Rattle.pl_scope.specs.Index.{entry_of, entries_from, entries, is_entry, IsIndex, is_better, best_of, IsBest}
+use Rattle.pl_scope.specs.Index.{entry_of, entries_from, entries, entries_of, is_entry, IsIndex, is_better, best_of, IsBest}
 use Rattle.pl_scope.specs.declared.index.Entry.{Entry}
 use Rattle.pl_scope.specs.declared.found.Found.{Found}
 use Rattle.pl_scope.proofs.FoundLaws.{in_member_symbol, member_is, member_defines}
@@ -64,7 +62,7 @@ pub entries_done : (os : List Object) (m : ℕ) (front : List Entry) → length 
 unfolding entries_from
 entries_done os m front le so_far = sym (append-nil front) ∙ ap (λ (xs : List Entry). front ++ xs) (sym (at_drop_all (entries_from m) os m le)) ∙ so_far
 
-made_within : (o : Object) (m n : ℕ) (s : Symbol) (b : Bool) → m < n → IfSome (cond b (Some (record { hash = gnu s.name; member = m })) None) (λ (e : Entry). e.member < n)
+pub made_within : (o : Object) (m n : ℕ) (s : Symbol) (b : Bool) → m < n → IfSome (cond b (Some (record { hash = gnu s.name; member = m })) None) (λ (e : Entry). e.member < n)
 made_within o m n s true lt = lt
 made_within o m n s false lt = tt
 
@@ -165,6 +163,65 @@ module _ (es : List Entry) (h i j : ℕ)
   pub under_among : (count : ℕ) → All (λ e. e.member < count) es → All (λ e. e.member < count) (take (j - i) (drop i es))
   under_among count all = All-take (λ (e : Entry). e.member < count) (j - i) (drop i es) (All-drop (λ (e : Entry). e.member < count) i es all)
 
+-- ---- the entries of a hash, all of them
+
+module _ {X : Type 0} (p : X → Bool) where
+  filter_keeps : (xs : List X) → ((k : ℕ) (d : X) → k < length xs → p (get_or xs k d) ≡ true) → filter p xs ≡ xs
+  filter_keeps [] all = refl
+  filter_keeps (x ∷ xs) all =
+      let here : p x ≡ true = all zero x (omega arith) in
+      rw here (ap (λ (ys : List X). x ∷ ys) (filter_keeps xs (λ k d lt. all (suc k) d (omega (arith, lt)))))
+
+  filter_drops : (xs : List X) → ((k : ℕ) (d : X) → k < length xs → p (get_or xs k d) ≡ false) → filter p xs ≡ []
+  filter_drops [] none = refl
+  filter_drops (x ∷ xs) none =
+      let here : p x ≡ false = none zero x (omega arith) in
+      rw here (filter_drops xs (λ k d lt. none (suc k) d (omega (arith, lt))))
+
+module _ (es : List Entry) (h i j : ℕ)
+    (first : IsPartitionPoint (λ e. nat_lt e.hash h ≡ true) (λ e. nat_lt e.hash h ≡ false) es i)
+    (last : IsPartitionPoint (λ e. nat_lt e.hash (h + 1) ≡ true) (λ e. nat_lt e.hash (h + 1) ≡ false) es j)
+    (i_within : i ≤ length es) (j_within : j ≤ length es) (ordered : i ≤ j) where
+  abbrev is_of : Entry → Bool
+  is_of e = e.hash == h
+
+  below : (k : ℕ) (d : Entry) → k < length (take i es) → is_of (get_or (take i es) k d) ≡ false
+  below k d lt =
+      let less : k < i = omega (arith, lt, length-take i es) in
+      let at : get_or (take i es) k d ≡ get_or es k d = get_or-take i es k d less in
+      let low : (get_or es k d).hash < h = ltb-true (get_or es k d).hash h (first.0 k d (omega arith) less) in
+      ap is_of at ∙ ne_eqb (get_or es k d).hash h (λ same. absurd (omega (arith, low, same)))
+
+  within : (k : ℕ) (d : Entry) → k < length (take (j - i) (drop i es)) → is_of (get_or (take (j - i) (drop i es)) k d) ≡ true
+  within k d lt =
+      let less : k < j - i = omega (arith, lt, length-take (j - i) (drop i es)) in
+      let at : get_or (take (j - i) (drop i es)) k d ≡ get_or es (i + k) d = get_or-take (j - i) (drop i es) k d less ∙ get_or-drop i es k d in
+      let high : h ≤ (get_or es (i + k) d).hash = ltb-false (get_or es (i + k) d).hash h (first.1 (i + k) d (omega arith) (omega (arith, less))) in
+      let low : (get_or es (i + k) d).hash < h + 1 = ltb-true (get_or es (i + k) d).hash (h + 1) (last.0 (i + k) d (omega arith) (omega (arith, less))) in
+      ap is_of at ∙ eq-eqb (get_or es (i + k) d).hash h (omega (arith, high, low))
+
+  above : (k : ℕ) (d : Entry) → k < length (drop (j - i) (drop i es)) → is_of (get_or (drop (j - i) (drop i es)) k d) ≡ false
+  above k d lt =
+      let sum : i + (j - i + k) ≡ j + k = omega arith in
+      let less : j + k < length es = omega (arith, lt, length-drop (j - i) (drop i es), length-drop i es) in
+      let at : get_or (drop (j - i) (drop i es)) k d ≡ get_or es (j + k) d = get_or-drop (j - i) (drop i es) k d ∙ get_or-drop i es (j - i + k) d ∙ ap (λ (n : ℕ). get_or es n d) sum in
+      let high : h + 1 ≤ (get_or es (j + k) d).hash = ltb-false (get_or es (j + k) d).hash (h + 1) (last.1 (j + k) d (omega arith) less) in
+      ap is_of at ∙ ne_eqb (get_or es (j + k) d).hash h (λ same. absurd (omega (arith, high, same)))
+
+  pub under_exact : take (j - i) (drop i es) ≡ entries_of es h
+  under_exact =
+      let front = take i es in
+      let mid = take (j - i) (drop i es) in
+      let rest = drop (j - i) (drop i es) in
+      let split : filter is_of es ≡ filter is_of front ++ filter is_of (drop i es) = ap (filter is_of) (sym (take-append-drop i es)) ∙ filter-append is_of front (drop i es) in
+      let after : filter is_of (drop i es) ≡ filter is_of mid ++ filter is_of rest = ap (filter is_of) (sym (take-append-drop (j - i) (drop i es))) ∙ filter-append is_of mid rest in
+      sym (split
+      ∙ ap (λ (xs : List Entry). xs ++ filter is_of (drop i es)) (filter_drops is_of front below)
+      ∙ after
+      ∙ ap (λ (xs : List Entry). xs ++ filter is_of rest) (filter_keeps is_of mid within)
+      ∙ ap (λ (xs : List Entry). mid ++ xs) (filter_drops is_of rest above)
+      ∙ append-nil mid)
+
 -- ---- a search by the index
 
 module _ (os : List Object) (name : List ℕ) (class : Class) (version : Option (List ℕ)) where
@@ -260,6 +317,19 @@ module _ (os : List Object) (name : List ℕ) (class : Class) (version : Option 
         → ((g : Found) → x ≡ Some g → g.member ≡ e.member) → IsBest os name class version start (es ++ e ∷ []) (option_or x best)
     next_by es e best None is better at named = asked_none es e best is at
     next_by es e best (Some g) is better at named = asked_some es e best g is better at (named g refl)
+
+    -- one more that is asked
+    pub best_push : (es : List Entry) (e : Entry) (best new : Option Found) → IsBest os name class version start es best → new ≡ best_of os name class version start best e.member
+        → IsBest os name class version start (es ++ e ∷ []) new
+    best_push es e best new so_far made =
+        elim (cases_Bool (is_better start best e.member)) [
+          | inl better ↦
+              let found : new ≡ option_or (here e.member) best = made ∙ rw better refl in
+              rw found (next_by es e best (here e.member) so_far better refl (λ g at. member_is os name class version e.member g at))
+          | inr worse ↦
+              let left : new ≡ best = made ∙ rw worse refl in
+              rw left (not_asked es e best so_far worse)
+        ]
 
     -- one entry more
     pub best_more : (items : List Entry) (i : ℕ) (d : Entry) (best new : Option Found) → i < length items → IsBest os name class version start (take i items) best → new ≡ best_of os name class version start best (get_or items i d).member

@@ -13,5 +13,6 @@ pub mod ClosureLaws
 pub mod WalkedLaws
 pub mod FoundLaws
 pub mod IndexLaws
+pub mod FolderLaws
 pub mod KeptLaws
 pub mod CanonicalLaws

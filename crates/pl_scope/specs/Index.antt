@@ -1,5 +1,5 @@
 -- The definers of all members by the hashes of their names, and the search that asks the members under a hash alone.
-use Rattle.std.specs.Prelude.{◌≡◌, ◌≤◌, ◌<◌, ⊤, ℕ, ◌+◌, Bool, true, ◌&&◌, ◌==◌, nat_le, nat_lt, List, [], ◌∷◌, ◌++◌, length, slice_get, Option, Some, None, if◌then◌else◌}
+use Rattle.std.specs.Prelude.{◌≡◌, ◌≤◌, ◌<◌, ℕ, ◌+◌, Bool, true, ◌&&◌, ◌==◌, nat_le, nat_lt, List, [], ◌∷◌, ◌++◌, length, slice_get, filter, Option, Some, None, if◌then◌else◌}
 use Rattle.std.specs.List.{All, list_any, filter_map}
 use Rattle.std.specs.Option.{option_or}
 use Rattle.std.specs.List.Sorted.{IsNonDecreasingBy}
@@ -13,8 +13,6 @@ use Rattle.pl_object.specs.declared.object.Object.{Object}
 use Rattle.pl_scope.specs.Finds.{in_member}
 use Rattle.pl_scope.specs.declared.found.Found.{Found}
 use Rattle.pl_scope.specs.declared.index.Entry.{Entry}
-use Rattle.pl_scope.specs.declared.lookup.Way.{Way}
-use Rattle.pl_scope.specs.declared.lookup.Way.TheVariants.{InOrder, Indexed, InLists}
 
 -- ---- the index
 
@@ -34,17 +32,15 @@ entries objects = entries_from 0 objects
 abbrev pub is_entry : ℕ → ℕ → Entry → Bool
 is_entry hash member e = e.hash == hash && e.member == member
 
+-- those of a hash, in their order
+abbrev pub entries_of : List Entry → ℕ → List Entry
+entries_of index hash = filter (λ e. e.hash == hash) index
+
 -- each definer of each member is there, under its name's hash
 pub record IsIndex (objects : List Object) (index : List Entry) : Type 0 where
   pub rising : IsNonDecreasingBy (λ e. e.hash) index
   pub within : All (λ e. e.member < length objects) index
   pub whole : (m i : ℕ) (o : Object) (s : Symbol) → slice_get objects m ≡ Some o → slice_get o.symbols i ≡ Some s → is_definer s Other (is_program o.kind) ≡ true → list_any (is_entry (gnu s.name) m) index ≡ true
-
--- where an index is used it is that of the scope
-abbrev pub IsWay : List Object → Way → Type 0
-IsWay objects InOrder = ⊤
-IsWay objects (Indexed index) = IsIndex objects index.now
-IsWay objects InLists = ⊤
 
 -- ---- a search among the members under a hash
 

@@ -6,4 +6,5 @@ pub mod Matching
 pub mod Probing
 pub mod Finds
 pub mod Index
+pub mod Folder
 pub mod Kept

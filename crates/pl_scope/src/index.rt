@@ -34,7 +34,7 @@ fn entry_of(object: &Object, member: u32, symbol: &Symbol) -> Option<Entry>
 }
 
 /// Adds the definers of a member.
-fn add_entries(entries: &mut Vec<Entry>, object: &Object, member: u32) -> Result<(), AllocError>
+pub fn add_entries(entries: &mut Vec<Entry>, object: &Object, member: u32) -> Result<(), AllocError>
     ensures { OnOk result (entries.new.items ≡ entries.old.items
         ++ filter_map (spec.entry_of object.now member) object.now.symbols) }
 {
@@ -91,6 +91,7 @@ pub fn under(index: &[Entry], hash: u32) -> &[Entry]
         → list_any (λ e. e.member == m) result.now ≡ true }
     ensures among { (count : ℕ) → All (λ e. e.member < count) index.now
         → All (λ e. e.member < count) result.now }
+    ensures exact { result.now ≡ spec.entries_of index.now hash }
 {
     let hash = u64::from(hash);
     let first = before(index, hash);

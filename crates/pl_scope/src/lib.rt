@@ -4,6 +4,7 @@
 mod answers;
 pub mod constants;
 mod fault;
+mod folder;
 mod found;
 mod index;
 mod kept;
@@ -20,10 +21,11 @@ mod wanted;
 
 pub use constants::MAX_MEMBERS;
 pub use fault::WalkFault;
+pub use folder::{Among, Index};
 pub use found::Found;
 pub use kept::Kept;
 pub use laws::{members_tell_walks, members_walk_within, walks_are_closed, walks_are_walks};
-pub use lookup::{find, find_in_lists, own_symbol};
+pub use lookup::{find, find_among, find_in_lists, own_symbol};
 pub use member::Member;
 pub use order::Order;
 pub use reference::Reference;

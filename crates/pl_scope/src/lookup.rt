@@ -1,14 +1,16 @@
 // The definer that a reference finds.
 ghost use Rattle.std.specs.Prelude.{◌≡◌, ◌<◌, ◌==◌, ◌&&◌, length, not, IfSome, Some};
 ghost use Rattle.std.specs.List.{list_any};
-ghost use Rattle.std.specs.Option.{option_map};
+ghost use Rattle.std.specs.Option.{ForSome, option_map};
 ghost use Rattle.pl_sym.specs.Symbol.{is_undefined};
 ghost use Rattle.pl_scope.specs.Scope.{objects, IsFit, IsReference, IsSymbol};
 ghost use Rattle.pl_scope.specs.Matching.{matching};
 ghost use Rattle.pl_scope.specs.Probing as probing;
+ghost use Rattle.pl_scope.specs.Folder as folder;
 ghost use Rattle.pl_scope.specs.Index as index;
 ghost use Rattle.pl_scope.specs.Finds as spec;
 
+use crate::folder::{Among, position_of};
 use crate::index::{Entry, under};
 use crate::matching::{defines, matching};
 use crate::probe::matching_by_table;
@@ -27,6 +29,9 @@ pub enum Way<'i> {
 
     /// Those that have a definer under the name's hash, by an index of the scope, each by a table.
     Indexed(&'i [Entry]),
+
+    /// Those that have a definer under the name's hash, by an index of the folder whose objects they are, each by a table.
+    Among(&'i Among<'i>),
 
     /// One after the other, each through all its symbols.
     InLists,
@@ -196,14 +201,55 @@ fn first_indexed(
     best
 }
 
+/// The matching definer of an entry's member, where the scope has it and it is better than what was found, which else stays.
+fn best_at(
+    scope: &Scope<'_>,
+    wanted: &Wanted<'_>,
+    start: u32,
+    best: Option<Found>,
+    member: Option<u32>,
+) -> Option<Found>
+    requires within { ForSome member (λ m. m < length scope.now) }
+    requires wanted { probing.IsWanted wanted.now }
+    ensures { result ≡ folder.best_at (objects scope.now) wanted.now start best member }
+{
+    match member {
+        None => best,
+        Some(member) => best_of(scope, wanted, start, best, member),
+    }
+}
+
+/// The matching definer of the first member from one on that has one, where only the members are asked that an index of the folder has under the name's hash; where that has more rows than the scope has members, the members one after the other.
+fn first_among(
+    scope: &Scope<'_>,
+    wanted: &Wanted<'_>,
+    start: u32,
+    among: &Among<'_>,
+) -> Option<Found>
+    requires wanted { probing.IsWanted wanted.now }
+    requires index { folder.IsIndexAmong (objects scope.now) among.now }
+    ensures { result ≡ spec.first_match scope.now wanted.now start }
+{
+    let entries = among.index.entries_of(wanted.gnu);
+    if entries.len() > scope.count() as usize {
+        return first_in_order(scope, wanted, start, Way::InOrder);
+    }
+    let mut best = None;
+    for entry in entries {
+        best = best_at(scope, wanted, start, best, position_of(among, entry));
+    }
+    best
+}
+
 /// The matching definer of the first member from one on that has one.
 fn first_from(scope: &Scope<'_>, wanted: &Wanted<'_>, start: u32, way: Way<'_>) -> Option<Found>
     requires wanted { probing.IsWanted wanted.now }
-    requires way { index.IsWay (objects scope.now) way }
+    requires way { folder.IsWay (objects scope.now) way }
     ensures { result ≡ spec.first_match scope.now wanted.now start }
 {
     match way {
         Way::Indexed(entries) => first_indexed(scope, wanted, start, entries),
+        Way::Among(among) => first_among(scope, wanted, start, among),
         _ => first_in_order(scope, wanted, start, way),
     }
 }
@@ -219,7 +265,7 @@ fn in_order(
 ) -> Option<Found>
     requires within { reference.member < length scope.now }
     requires wanted { probing.IsWanted wanted.now }
-    requires way { index.IsWay (objects scope.now) way }
+    requires way { folder.IsWay (objects scope.now) way }
     ensures { result ≡ spec.first_in (objects scope.now) wanted.now.name.now wanted.now.class
         (option_map (λ x. x.now) wanted.now.version)
         (spec.searched object.now reference (length scope.now)) }
@@ -245,7 +291,7 @@ fn found_for(
     way: Way<'_>,
 ) -> Option<Found>
     requires within { reference.member < length scope.now }
-    requires way { index.IsWay (objects scope.now) way }
+    requires way { folder.IsWay (objects scope.now) way }
     ensures { result ≡ spec.found_for (objects scope.now) reference object.now symbol.now }
 {
     let wanted = wanted_by(object, symbol, reference.kind);
@@ -265,7 +311,7 @@ pub fn own_symbol<'a>(scope: &Scope<'a>, reference: Reference) -> &'a Symbol
 #[tactic(auto, unfolding(crate::specs::Finds::finds))]
 pub fn find_by(scope: &Scope<'_>, reference: Reference, way: Way<'_>) -> Option<Found>
     requires reference { IsReference scope.now reference }
-    requires way { index.IsWay (objects scope.now) way }
+    requires way { folder.IsWay (objects scope.now) way }
     ensures { result ≡ spec.finds (objects scope.now) reference }
 {
     let object = scope.object(reference.member);
@@ -293,6 +339,17 @@ pub fn find(scope: &Scope<'_>, reference: Reference) -> Option<Found>
         found.symbol) }
 {
     find_by(scope, reference, Way::InOrder)
+}
+
+/// The symbol that a reference finds in a scope, as `find` gives it, where an index of the folder whose objects the members are tells which of them may have a definer: those alone are asked. No memory is taken.
+pub fn find_among(scope: &Scope<'_>, reference: Reference, among: &Among<'_>) -> Option<Found>
+    requires reference { IsReference scope.now reference }
+    requires index { folder.IsIndexAmong (objects scope.now) among.now }
+    ensures exact { result ≡ spec.finds (objects scope.now) reference }
+    ensures within { IfSome result (λ found. IsSymbol (objects scope.now) found.member
+        found.symbol) }
+{
+    find_by(scope, reference, Way::Among(among))
 }
 
 /// The symbol that a reference finds in a scope, as `find` gives it, by a search through all symbols of each object. For tests: it takes as many steps as the objects have symbols.

@@ -1,5 +1,5 @@
 // Which symbol of one object answers to a name, by a search among those to which the name's hash leads.
-ghost use Rattle.std.specs.Prelude.{◌≡◌, ◌==◌, ◌&&◌, [], None, Some, not, length, position, slice_get, IfSome, IfNone, if◌then◌else◌};
+ghost use Rattle.std.specs.Prelude.{◌≡◌, ◌==◌, ◌&&◌, [], None, Some, not, position, IfSome, IfNone, if◌then◌else◌};
 ghost use Rattle.std.specs.Option.{option_map};
 ghost use Rattle.pl_sym.specs.declared.class.Class.TheVariants.{Jump};
 ghost use Rattle.pl_scope.specs.Scope.{IsFit};

@@ -7,10 +7,12 @@ use Rattle.pl_base.specs.Digits.{hex16, hex_digit, line_text}
 use Rattle.pl_cone.specs.declared.skip.Skip.{Skip}
 use Rattle.pl_cone.specs.declared.skip.Skip.TheVariants as skips
 use Rattle.pl_loader.specs.declared.fault.LoadFault.{LoadFault}
-use Rattle.pl_loader.specs.declared.fault.LoadFault.TheVariants.{NotThere, BadMark, Refused, NotProgram, NeededIsProgram, TooMany, TlsTooLarge, NoPlace, Undefined, UndefinedTls, TlsMismatch, CopyOutside, NoMemory}
+use Rattle.pl_loader.specs.declared.fault.LoadFault.TheVariants.{NotThere, BadMark, Refused, NotProgram, NeededIsProgram, TooMany, TlsTooLarge, NoPlace, NoMemory, Link}
 use Rattle.pl_texts.specs.declared.cause.Cause.{Cause}
 use Rattle.pl_texts.specs.declared.cause.Cause.TheVariants.{BadName, BadJournal, FileTooLarge, Load, InputTooLarge, Recipe, TooManyFiles, BadCache, FolderTooLarge, NoSlot, StampsSpent, NotPie, NotFixed, Script}
 use Rattle.pl_texts.specs.declared.symbol_text.TheConstants.{BACKSLASH}
+use Rattle.pl_value.specs.LinkNames.{name_of_cause}
+use Rattle.pl_value.specs.declared.link_names.NamedFault.{NamedFault}
 
 -- ---- a symbol's name. It may have any bytes but 0
 
@@ -39,6 +41,10 @@ numbered cause number = cause ++ codes " " ++ decimal number
 -- the object whose relocation is refused, and its symbol
 unfoldable pub link_text : List ℕ → List ℕ → Option (List ℕ) → List ℕ
 link_text cause object symbol = cause ++ codes " " ++ object ++ codes " " ++ symbol_text symbol
+
+-- a link refusal
+abbrev pub link_fault_text : NamedFault → List ℕ
+link_fault_text fault = link_text (name_of_cause fault.cause) fault.object fault.symbol
 
 -- a refusal by one of these clauses tells a tag's number or a relocation's kind
 abbrev pub has_argument : ℕ → Bool
@@ -75,10 +81,7 @@ load_fault_text (NeededIsProgram name) = named (codes "NeededIsProgram") name
 load_fault_text (TooMany name) = named (codes "TooMany") name
 load_fault_text TlsTooLarge = codes "TlsTooLarge"
 load_fault_text (NoPlace name) = named (codes "NoPlace") name
-load_fault_text (Undefined object symbol) = link_text (codes "Undefined") object symbol
-load_fault_text (UndefinedTls object symbol) = link_text (codes "UndefinedTls") object symbol
-load_fault_text (TlsMismatch object symbol) = link_text (codes "TlsMismatch") object symbol
-load_fault_text (CopyOutside object symbol) = link_text (codes "CopyOutside") object symbol
+load_fault_text (Link fault) = link_fault_text fault
 load_fault_text NoMemory = codes "NoMemory"
 
 -- why a command is refused
@@ -108,10 +111,7 @@ skip_text (skips.NeededIsProgram name) = named (codes "NeededIsProgram") name
 skip_text (skips.TooMany name) = named (codes "TooMany") name
 skip_text (skips.Form name number) = form_text name number
 skip_text skips.TlsTooLarge = codes "TlsTooLarge"
-skip_text (skips.Undefined object symbol) = link_text (codes "Undefined") object symbol
-skip_text (skips.UndefinedTls object symbol) = link_text (codes "UndefinedTls") object symbol
-skip_text (skips.TlsMismatch object symbol) = link_text (codes "TlsMismatch") object symbol
-skip_text (skips.CopyOutside object symbol) = link_text (codes "CopyOutside") object symbol
+skip_text (skips.Link fault) = link_fault_text fault
 skip_text skips.NoMemory = codes "NoMemory"
 
 -- the line of a refusal

@@ -7,6 +7,7 @@ use crate::symbol_text::push_symbol;
 use pl_base::{Rows, Text};
 use pl_cone::Skip;
 use pl_loader::LoadFault;
+use pl_value::NamedFault;
 use std::alloc::{AllocError, Global};
 
 /// The text of a cause that tells nothing more.
@@ -35,7 +36,7 @@ fn numbered(alloc: Global, cause: &str, number: u64) -> Result<Vec<u8>, AllocErr
     Ok(format!(in alloc; "{cause} {number}")?.into_bytes())
 }
 
-/// The text of a link refusal, which tells an object's name and a symbol's.
+/// The text of a cause that tells an object's name and a symbol's.
 #[tactic(auto, unfolding(crate::specs::Refusals::link_text))]
 fn link_text(
     alloc: Global,
@@ -50,6 +51,13 @@ fn link_text(
     let mut text = format!(in alloc; "{cause} {object} ")?.into_bytes();
     push_symbol(&mut text, symbol)?;
     Ok(text)
+}
+
+/// The text of a link refusal by names.
+fn fault_text(alloc: Global, fault: &NamedFault) -> Result<Vec<u8>, AllocError>
+    ensures { IfOk result (λ text. text.items ≡ spec.link_fault_text fault.now) }
+{
+    link_text(alloc, fault.cause.name(), &fault.object, &fault.symbol)
 }
 
 /// Whether a refusal by the acceptance clause has an argument: a tag's number or a relocation's kind.
@@ -116,16 +124,7 @@ fn load_text(alloc: Global, fault: &LoadFault) -> Result<Vec<u8>, AllocError>
         LoadFault::TooMany(name) => named(alloc, "TooMany", name),
         LoadFault::TlsTooLarge => bare(alloc, "TlsTooLarge"),
         LoadFault::NoPlace(name) => named(alloc, "NoPlace", name),
-        LoadFault::Undefined { object, symbol } => link_text(alloc, "Undefined", object, symbol),
-        LoadFault::UndefinedTls { object, symbol } => {
-            link_text(alloc, "UndefinedTls", object, symbol)
-        }
-        LoadFault::TlsMismatch { object, symbol } => {
-            link_text(alloc, "TlsMismatch", object, symbol)
-        }
-        LoadFault::CopyOutside { object, symbol } => {
-            link_text(alloc, "CopyOutside", object, symbol)
-        }
+        LoadFault::Link(fault) => fault_text(alloc, fault),
         LoadFault::NoMemory => bare(alloc, "NoMemory"),
     }
 }
@@ -148,10 +147,7 @@ pub fn skip_text(alloc: Global, cause: &Skip) -> Result<Vec<u8>, AllocError>
         Skip::TooMany(name) => named(alloc, "TooMany", name),
         Skip::Form { name, number } => form_text(alloc, name, *number),
         Skip::TlsTooLarge => bare(alloc, "TlsTooLarge"),
-        Skip::Undefined { object, symbol } => link_text(alloc, "Undefined", object, symbol),
-        Skip::UndefinedTls { object, symbol } => link_text(alloc, "UndefinedTls", object, symbol),
-        Skip::TlsMismatch { object, symbol } => link_text(alloc, "TlsMismatch", object, symbol),
-        Skip::CopyOutside { object, symbol } => link_text(alloc, "CopyOutside", object, symbol),
+        Skip::Link(fault) => fault_text(alloc, fault),
         Skip::NoMemory => bare(alloc, "NoMemory"),
     }
 }

@@ -9,3 +9,4 @@ pub mod RowLaws
 pub mod FitLaws
 pub mod PlaceLaws
 pub mod ApartLaws
+pub mod LinkNameLaws

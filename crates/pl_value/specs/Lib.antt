@@ -8,3 +8,4 @@ pub mod Meanings
 pub mod Linked
 pub mod Ordinary
 pub mod Laws
+pub mod LinkNames

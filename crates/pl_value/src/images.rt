@@ -67,9 +67,9 @@ fn push_some(patches: &mut Vec<Patch>, patch: Option<Patch>) -> Result<(), Alloc
     }
 }
 
-/// The words for their places, in the order of the relocations.
+/// The words that relocations give, for their places, in the order of the relocations; those that give none are left out. It fails only for want of memory.
 #[tactic(auto, unfolding(crate::specs::Linked::words))]
-fn words(alloc: Global, meanings: &[Meaning]) -> Result<Vec<Patch>, AllocError>
+pub fn words(alloc: Global, meanings: &[Meaning]) -> Result<Vec<Patch>, AllocError>
     ensures { IfOk result (λ v. v.items ≡ linked.words meanings.now) }
 {
     let mut patches = Vec::new(alloc);

@@ -7,6 +7,7 @@ mod definer;
 mod fault;
 mod images;
 mod law;
+mod link_names;
 mod meaning;
 mod places;
 mod reading;
@@ -18,8 +19,9 @@ mod word;
 
 pub use collecting::meanings;
 pub use fault::{LinkFault, OrdinaryFault};
-pub use images::{load, ordinary, patches};
+pub use images::{load, ordinary, patches, words};
 pub use law::meanings_fit;
+pub use link_names::{LinkCause, NamedFault, named_fault};
 pub use meaning::Meaning;
 pub use places::Places;
 pub use reading::read;

@@ -14,7 +14,7 @@ use Rattle.pl_loader.specs.declared.object_file.ObjectFile.{ObjectFile}
 use Rattle.pl_loader.proofs.LoadLaws.{load_begins, load_ends, load_goes_on, load_lacks, load_stops}
 use Rattle.pl_place.specs.Policy.{Choice}
 use Rattle.pl_scope.specs.Walking.{wants}
-use Rattle.pl_weave.specs.Given.{given_from, given_of}
+use Rattle.pl_loader.specs.Given.{given_from, given_of}
 use Rattle.pl_weave.specs.Laws.{EventsLead, FinishedAreLoads}
 use Rattle.pl_weave.specs.Opening.{HasSeen, IsLed, Leads, LeadsOn, Opened, came_to, ended, files_by, led_to, seen_of, taken_as, wanted_by}
 use Rattle.pl_weave.specs.declared.seen.Seen.{Seen}

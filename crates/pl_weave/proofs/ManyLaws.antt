@@ -7,7 +7,7 @@ use Rattle.std.proofs.lemmas.Option.{slice_get-get_or, slice_get_cases, slice_ge
 use Rattle.pl_elf.specs.declared.range.Range.{Range}
 use Rattle.pl_folder.specs.Seen as folder
 use Rattle.pl_place.specs.Policy.{Answering}
-use Rattle.pl_weave.specs.Given.{MayPlace}
+use Rattle.pl_loader.specs.Given.{MayPlace}
 use Rattle.pl_weave.specs.Opening.{Opened, Opens, OpensAt, asks, asks_at, asks_by, opened, wanted_in}
 use Rattle.pl_weave.specs.Running.{AreChosen, HavePolicy, policies}
 use Rattle.pl_weave.specs.declared.fault.WeaveFault.{WeaveFault}

@@ -12,7 +12,7 @@ use Rattle.pl_loader.specs.declared.fault.LoadFault.TheVariants.{NotThere}
 use Rattle.pl_place.specs.Policy.{Answering, Choice, Follows}
 use Rattle.pl_scope.specs.Walk as walk
 use Rattle.pl_scope.specs.Walking.{wants}
-use Rattle.pl_weave.specs.Given.{given}
+use Rattle.pl_loader.specs.Given.{given}
 use Rattle.pl_weave.specs.Opening.{Opened, Sees, led_to, seen_of, taken_as, wanted, wanted_by}
 use Rattle.pl_weave.specs.declared.seen.Seen.{Seen}
 

@@ -1,7 +1,7 @@
 -- What a fault of a load has beside its kind.
 use Rattle.std.specs.Prelude.{ℕ, List, [], Option, None}
 use Rattle.pl_loader.specs.declared.fault.LoadFault.{LoadFault}
-use Rattle.pl_loader.specs.declared.fault.LoadFault.TheVariants.{NotThere, BadMark, Refused, NotProgram, NeededIsProgram, TooMany, TlsTooLarge, NoPlace, Undefined, UndefinedTls, TlsMismatch, CopyOutside, NoMemory}
+use Rattle.pl_loader.specs.declared.fault.LoadFault.TheVariants.{NotThere, BadMark, Refused, NotProgram, NeededIsProgram, TooMany, TlsTooLarge, NoPlace, Link, NoMemory}
 
 -- the name of a file; an empty one where it has none
 abbrev pub name_in : LoadFault → List ℕ
@@ -13,10 +13,7 @@ name_in (NeededIsProgram n) = n
 name_in (TooMany n) = n
 name_in TlsTooLarge = []
 name_in (NoPlace n) = n
-name_in (Undefined n symbol) = n
-name_in (UndefinedTls n symbol) = n
-name_in (TlsMismatch n symbol) = n
-name_in (CopyOutside n symbol) = n
+name_in (Link fault) = fault.object
 name_in NoMemory = []
 
 -- the name of a symbol, if it has one
@@ -29,10 +26,7 @@ symbol_in (NeededIsProgram n) = None
 symbol_in (TooMany n) = None
 symbol_in TlsTooLarge = None
 symbol_in (NoPlace n) = None
-symbol_in (Undefined n symbol) = symbol
-symbol_in (UndefinedTls n symbol) = symbol
-symbol_in (TlsMismatch n symbol) = symbol
-symbol_in (CopyOutside n symbol) = symbol
+symbol_in (Link fault) = fault.symbol
 symbol_in NoMemory = None
 
 -- a fault of the same kind with these
@@ -45,8 +39,5 @@ with_names n s (NeededIsProgram name) = NeededIsProgram n
 with_names n s (TooMany name) = TooMany n
 with_names n s TlsTooLarge = TlsTooLarge
 with_names n s (NoPlace name) = NoPlace n
-with_names n s (Undefined name symbol) = Undefined n s
-with_names n s (UndefinedTls name symbol) = UndefinedTls n s
-with_names n s (TlsMismatch name symbol) = TlsMismatch n s
-with_names n s (CopyOutside name symbol) = CopyOutside n s
+with_names n s (Link fault) = Link (record { cause = fault.cause; object = n; symbol = s })
 with_names n s NoMemory = NoMemory

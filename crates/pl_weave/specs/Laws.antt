@@ -7,7 +7,7 @@ use Rattle.pl_loader.specs.Started.{load}
 use Rattle.pl_loader.specs.declared.fault.LoadFault.{LoadFault}
 use Rattle.pl_place.specs.Policy.{Choice}
 use Rattle.pl_script.specs.declared.script.Event.{Event}
-use Rattle.pl_weave.specs.Given.{given_from}
+use Rattle.pl_loader.specs.Given.{given_from}
 use Rattle.pl_weave.specs.Opening.{HasSeen, IsLed, Opened, ended, wanted, with_file}
 use Rattle.pl_weave.specs.Weaving.{woven}
 

@@ -1,5 +1,4 @@
 pub mod Taking
-pub mod Given
 pub mod Copying
 pub mod Opening
 pub mod Runs

@@ -11,7 +11,7 @@ use Rattle.pl_loader.specs.declared.object_file.ObjectFile.{ObjectFile}
 use Rattle.pl_loader.specs.declared.started.Started.{Started}
 use Rattle.pl_place.specs.Policy.{Answering, Choice, Follows}
 use Rattle.pl_scope.specs.Walking.{wants}
-use Rattle.pl_weave.specs.Given.{given}
+use Rattle.pl_loader.specs.Given.{given}
 use Rattle.pl_weave.specs.Taking.{Untaken, asks_for, held_file}
 use Rattle.pl_weave.specs.declared.fault.WeaveFault.{WeaveFault}
 use Rattle.pl_weave.specs.declared.seen.Seen.{Seen}

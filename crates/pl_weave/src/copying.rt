@@ -5,6 +5,7 @@ ghost use Rattle.pl_weave.specs.Copying as spec;
 
 use pl_base::{Rows, Text};
 use pl_loader::LoadFault;
+use pl_value::NamedFault;
 use std::alloc::{AllocError, Global};
 
 /// A copy of a file, if there is one.
@@ -33,10 +34,7 @@ fn name_in(fault: &LoadFault) -> &str
         LoadFault::TooMany(name) => name.as_str(),
         LoadFault::TlsTooLarge => "",
         LoadFault::NoPlace(name) => name.as_str(),
-        LoadFault::Undefined { object, .. } => object.as_str(),
-        LoadFault::UndefinedTls { object, .. } => object.as_str(),
-        LoadFault::TlsMismatch { object, .. } => object.as_str(),
-        LoadFault::CopyOutside { object, .. } => object.as_str(),
+        LoadFault::Link(fault) => fault.object.as_str(),
         LoadFault::NoMemory => "",
     }
 }
@@ -55,10 +53,7 @@ fn symbol_in(fault: &LoadFault) -> Option<&[u8]>
     ensures { option_map (λ bytes. bytes.now) result ≡ spec.symbol_in fault.now }
 {
     match fault {
-        LoadFault::Undefined { symbol, .. } => bytes_in(symbol),
-        LoadFault::UndefinedTls { symbol, .. } => bytes_in(symbol),
-        LoadFault::TlsMismatch { symbol, .. } => bytes_in(symbol),
-        LoadFault::CopyOutside { symbol, .. } => bytes_in(symbol),
+        LoadFault::Link(fault) => bytes_in(&fault.symbol),
         _ => None,
     }
 }
@@ -97,22 +92,11 @@ fn with_names(fault: &LoadFault, name: Text, symbol: Option<Rows<u8>>) -> LoadFa
         LoadFault::TooMany(_) => LoadFault::TooMany(name),
         LoadFault::TlsTooLarge => LoadFault::TlsTooLarge,
         LoadFault::NoPlace(_) => LoadFault::NoPlace(name),
-        LoadFault::Undefined { .. } => LoadFault::Undefined {
+        LoadFault::Link(fault) => LoadFault::Link(NamedFault {
+            cause: fault.cause,
             object: name,
             symbol,
-        },
-        LoadFault::UndefinedTls { .. } => LoadFault::UndefinedTls {
-            object: name,
-            symbol,
-        },
-        LoadFault::TlsMismatch { .. } => LoadFault::TlsMismatch {
-            object: name,
-            symbol,
-        },
-        LoadFault::CopyOutside { .. } => LoadFault::CopyOutside {
-            object: name,
-            symbol,
-        },
+        }),
         LoadFault::NoMemory => LoadFault::NoMemory,
     }
 }

@@ -3,7 +3,6 @@
 
 mod copying;
 mod fault;
-mod given;
 mod laws;
 mod opening;
 mod progress;
@@ -16,7 +15,6 @@ mod weave;
 mod weaving;
 
 pub use fault::WeaveFault;
-pub use given::given_file;
 pub use laws::{events_lead, finished_are_loads, woven_are_led};
 pub use opening::Opening;
 pub use progress::Progress;

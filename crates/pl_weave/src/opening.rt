@@ -5,18 +5,17 @@ ghost use Rattle.pl_folder.specs.Calls.{Calls};
 ghost use Rattle.pl_folder.specs.Effects.{Asks};
 ghost use Rattle.pl_loader.specs.Faults.{is_memory};
 ghost use Rattle.pl_place.specs.Policy as policy;
-ghost use Rattle.pl_weave.specs.Given.{MayPlace};
+ghost use Rattle.pl_loader.specs.Given.{MayPlace};
 ghost use Rattle.pl_weave.specs.Opening as spec;
 ghost use Rattle.pl_weave.specs.Taking.{ending};
 
 use crate::copying::{copy_fault, copy_file};
-use crate::given::given;
 use crate::taking::take;
 use crate::{Seen, WeaveFault};
 use pl_base::Text;
 use pl_io::NoMemory;
 use pl_journal::Takes;
-use pl_loader::{LoadFault, Loader, Started};
+use pl_loader::{LoadFault, Loader, Started, given_if_there};
 use pl_place::{Holes, Placer};
 use std::alloc::Global;
 use std::marker::Model;
@@ -102,7 +101,7 @@ impl<'p, F: Fn(&Holes, u64, u64) -> Option<u64>> Opening<'p, F> {
     {
         let copy = copy_file(alloc, &file)?;
         let placer = self.loader.placer();
-        let given = given(alloc, placer, self.name.as_str(), name.as_str(), file);
+        let given = given_if_there(alloc, placer, self.name.as_str(), name.as_str(), file);
         self.seen.push(Seen { name, file: copy })?;
         match given {
             Ok(file) => match self.loader.give(alloc, file) {

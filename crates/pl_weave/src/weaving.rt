@@ -7,7 +7,7 @@ ghost use Rattle.pl_change.specs.Copied.{IsCopy};
 ghost use Rattle.pl_journal.specs.Meaning.{Agree};
 ghost use Rattle.pl_place.specs.Policy as policy;
 ghost use Rattle.pl_script.specs.Script.{is_of};
-ghost use Rattle.pl_weave.specs.Given.{MayPlace};
+ghost use Rattle.pl_loader.specs.Given.{MayPlace};
 ghost use Rattle.pl_weave.specs.Running as spec;
 ghost use Rattle.pl_weave.specs.Running.{files_in};
 ghost use Rattle.pl_weave.specs.Weaving as weaving;

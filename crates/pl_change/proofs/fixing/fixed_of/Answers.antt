@@ -24,4 +24,5 @@ returns-in_ok-copy_of-in-NoPlace-clause-means g c = then_holds c.in_ok-fix_place
 
 pub returns-in-Fixed-clause-means : goal.returns-in-Fixed-clause-means
 unfolding fixed_of
-returns-in-Fixed-clause-means g c = then_holds c.in_ok-fix_placed.ensures.placed (λ choose made. ap (fixed_by c.args.name.now) (sym made ∙ c.in-Fixed.is))
+returns-in-Fixed-clause-means g c = then_holds c.in_ok-fix_placed.ensures.placed (λ choose made.
+    ap (fixed_by c.args.name.now) (sym made ∙ c.in-Fixed.is) ∙ ap (λ (xs : List ℕ). fixed_by c.args.name.now (placings.Fixed c.in-Fixed.address xs)) (sym c.into_bytes.ensures))

@@ -38,21 +38,21 @@ loop-wanted-init g c =
       calls = none_yet a (left_from object c.in_ok-loader.loader.walk.order) (takes object c.args.name.now) (ap (λ (l : Loading). left_from object l.order) begun ∙ left_all object c.args.name.now);
     }
 
-pub returns-in_err-bytes-clause-loaded : goal.returns-in_err-bytes-clause-loaded
-returns-in_err-bytes-clause-loaded g c =
+pub returns-in_err-file-clause-loaded : goal.returns-in_err-file-clause-loaded
+returns-in_err-file-clause-loaded g c =
     let seen = g.D.Folder.seen in
     let a = seen c.args.folder.now in
     let at = c.loop-wanted.invariant in
     let valid : is_valid_name c.args.name.now ≡ true = search rules in
     let is : wants c.loop-wanted.loader.walk.order ≡ Some c.in-Some.wanted.now = sym c.in-Some.ensures.name in
     let below = wanted_below c.loop-wanted.loader.walk.order c.in-Some.wanted.now c.in-Some.ensures.loading.walking is in
-    at_err (λ r. HasLoaded c.args.asked c.args.name.now r a (seen c.given.new.folder)) c.from_residual-in_err-bytes.result c.in_err-bytes.field-0.0 c.from_residual-in_err-bytes.ensures.1
-    (stopped_in_folder c.args.asked a c.args.name.now valid (g.met.D.Folder.is_folder c.args.folder.now) c.loop-wanted.loader.walk c.in-Some.wanted.now is below at.under_way (seen c.loop-wanted.folder) (seen c.given.new.folder) at.calls c.in_err-bytes.field-0.0 c.in_err-bytes.ensures.given)
+    at_err (λ r. HasLoaded c.args.asked c.args.name.now r a (seen c.given.new.folder)) c.from_residual-in_err-file.result c.in_err-file.field-0.0 c.from_residual-in_err-file.ensures.1
+    (stopped_in_folder c.args.asked a c.args.name.now valid (g.met.D.Folder.is_folder c.args.folder.now) c.loop-wanted.loader.walk c.in-Some.wanted.now is below at.under_way (seen c.loop-wanted.folder) (seen c.given.new.folder) at.calls c.in_err-file.field-0.0 c.in_err-file.ensures.given)
 
 pub loop-wanted-smaller : goal.loop-wanted-smaller
 loop-wanted-smaller g c =
     let is : wants c.loop-wanted.loader.walk.order ≡ Some c.in-Some.wanted.now = sym c.in-Some.ensures.name in
-    let more = give_more c.loop-wanted.loader.walk c.give.new.self.walk c.in-Some.wanted.now (Some c.in_ok-bytes.bytes.items) is c.in_ok-give.ensures.ok in
+    let more = give_more c.loop-wanted.loader.walk c.give.new.self.walk c.in-Some.wanted.now (Some c.in_ok-file.file) is c.in_ok-give.ensures.ok in
     let below = wanted_below c.loop-wanted.loader.walk.order c.in-Some.wanted.now c.in-Some.ensures.loading.walking is in
     omega arith
 
@@ -64,14 +64,14 @@ loop-wanted-preserved g c =
     let valid : is_valid_name c.args.name.now ≡ true = search rules in
     let is : wants c.loop-wanted.loader.walk.order ≡ Some c.in-Some.wanted.now = sym c.in-Some.ensures.name in
     let below = wanted_below c.loop-wanted.loader.walk.order c.in-Some.wanted.now c.in-Some.ensures.loading.walking is in
-    let more = give_more c.loop-wanted.loader.walk c.give.new.self.walk c.in-Some.wanted.now (Some c.in_ok-bytes.bytes.items) is c.in_ok-give.ensures.ok in
+    let more = give_more c.loop-wanted.loader.walk c.give.new.self.walk c.in-Some.wanted.now (Some c.in_ok-file.file) is c.in_ok-give.ensures.ok in
     record {
-      under_way = λ told. load_goes_on causes.Load (loading_file c.args.asked a.files c.args.name.now) c.args.name.now c.in-Some.wanted.now (Some c.in_ok-bytes.bytes.items) c.loop-wanted.loader.walk c.give.new.self.walk is
-          (ap (λ (fs : Files). loading_file c.args.asked fs c.args.name.now c.in-Some.wanted.now) (sym (at.calls.files told)) ∙ c.in_ok-bytes.ensures.given.means (λ _. at.calls.tells ∙ told)) c.in_ok-give.ensures.ok (at.under_way told);
+      under_way = λ told. load_goes_on causes.Load (loading_file c.args.asked a.files c.args.name.now) c.args.name.now c.in-Some.wanted.now (Some c.in_ok-file.file) c.loop-wanted.loader.walk c.give.new.self.walk is
+          (ap (λ (fs : Files). loading_file c.args.asked fs c.args.name.now c.in-Some.wanted.now) (sym (at.calls.files told)) ∙ c.in_ok-file.ensures.given.means (λ _. at.calls.tells ∙ told)) c.in_ok-give.ensures.ok (at.under_way told);
       busy = ap (λ (l : Load _). l.busy) c.give.ensures.same ∙ at.busy;
       policy = ap (λ (l : Load _). l.policy) c.give.ensures.same ∙ at.policy;
-      calls = load_goes c.args.asked a c.args.name.now valid (g.met.D.Folder.is_folder c.args.folder.now) c.loop-wanted.loader.walk c.in-Some.wanted.now is below at.under_way (seen c.loop-wanted.folder) (seen c.given.new.folder) at.calls c.in_ok-bytes.bytes
-          c.in_ok-bytes.ensures.given c.give.new.self.walk more c.in_ok-give.ensures.ok;
+      calls = load_goes c.args.asked a c.args.name.now valid (g.met.D.Folder.is_folder c.args.folder.now) c.loop-wanted.loader.walk c.in-Some.wanted.now is below at.under_way (seen c.loop-wanted.folder) (seen c.given.new.folder) at.calls c.in_ok-file.file
+          c.in_ok-file.ensures.given c.give.new.self.walk more c.in_ok-give.ensures.ok;
     }
 
 pub returns-in_err-give-clause-loaded : goal.returns-in_err-give-clause-loaded
@@ -84,7 +84,7 @@ returns-in_err-give-clause-loaded g c =
     let below = wanted_below c.loop-wanted.loader.walk.order c.in-Some.wanted.now c.in-Some.ensures.loading.walking is in
     at_err (λ r. HasLoaded c.args.asked c.args.name.now r a (seen c.given.new.folder)) c.from_residual-in_err-give.result (of_load_fault c.in_err-give.field-0.0) c.from_residual-in_err-give.ensures.1
     (stopped_at_file c.args.asked a c.args.name.now valid (g.met.D.Folder.is_folder c.args.folder.now) c.loop-wanted.loader.walk c.in-Some.wanted.now is below at.under_way (seen c.loop-wanted.folder) (seen c.given.new.folder) at.calls
-    c.in_ok-bytes.bytes c.in_ok-bytes.ensures.given c.in_err-give.field-0.0 c.in_err-give.ensures.err)
+    c.in_ok-file.file c.in_ok-file.ensures.given c.in_err-give.field-0.0 c.in_err-give.ensures.err)
 
 pub returns-clause-loaded : goal.returns-clause-loaded
 returns-clause-loaded g c =

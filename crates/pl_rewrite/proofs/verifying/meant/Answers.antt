@@ -1,13 +1,32 @@
-use Rattle.std.proofs.Common.{◌≡◌, Some, sym, ◌∙◌}
-use Rattle.pl_cone.specs.Candidates.{walk_in}
-use Rattle.pl_rewrite.specs.Members.{walk_told}
-use Rattle.pl_rewrite.proofs.VerifyLaws.{refused_meant, walk_some}
+use Rattle.std.proofs.Common.{ℕ, List, length, ap, sym, subst, ◌∙◌}
+use Rattle.std.proofs.lemmas.List.{length-map}
+use Rattle.pl_cone.specs.Table.{AreWalks, refusals_in}
+use Rattle.pl_cone.proofs.TableLaws.{walks_are}
+use Rattle.pl_rewrite.specs.Verify.{slot_borne, stamp_borne}
 use Rattle.pl_rewrite.proofs.verifying.meant.Goals as goal
 
-pub returns-in-None : goal.returns-in-None
-returns-in-None c = refused_meant c.args.view.now c.args.name.now c.requires (sym c.in-None.is ∙ c.in_ok-walk_of.ensures)
+pub walks_of-requires : goal.walks_of-requires
+walks_of-requires c = c.requires.taken
 
-pub meant_by-requires-clause-walk : goal.meant_by-requires-clause-walk
-meant_by-requires-clause-walk c =
-    let told : Some c.in-Some.scope ≡ walk_told (walk_in c.args.view.now.known.now c.args.name.now) = sym c.in-Some.is ∙ c.in_ok-walk_of.ensures in
-    walk_some c.args.view.now c.args.name.now c.in-Some.scope told
+pub index_of-requires : goal.index_of-requires
+index_of-requires c = c.requires.taken
+
+pub meant_if_marked-requires-clause-numbered : goal.meant_if_marked-requires-clause-numbered
+meant_if_marked-requires-clause-numbered c =
+    let ts = c.args.files.now in
+    record {
+      taken = c.requires.taken;
+      walks = subst (λ (rows : List (List ℕ)). AreWalks ts (record { walks = rows; causes = refusals_in ts })) (sym c.as_slice-rows.ensures) (walks_are ts c.in_ok-made.made c.in_ok-made.ensures);
+      index = c.in_ok-index.ensures;
+      places = ap length (c.as_slice-places.ensures ∙ c.in_ok-slots.ensures) ∙ length-map ts slot_borne;
+      stamps = ap length (c.as_slice-stamps.ensures ∙ c.in_ok-times.ensures) ∙ length-map ts stamp_borne;
+    }
+
+pub meant_if_marked-requires-clause-borne : goal.meant_if_marked-requires-clause-borne
+meant_if_marked-requires-clause-borne c = record {
+  places = c.as_slice-places.ensures ∙ c.in_ok-slots.ensures;
+  stamps = c.as_slice-stamps.ensures ∙ c.in_ok-times.ensures;
+}
+
+pub returns : goal.returns
+returns c = c.in_ok-file.ensures

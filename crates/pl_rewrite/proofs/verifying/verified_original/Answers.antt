@@ -1,20 +1,20 @@
-use Rattle.std.proofs.Common.{◌≡◌, ℕ, List, Option, sym, subst}
-use Rattle.std.specs.Borrow.{Bor}
-use Rattle.std.specs.Prelude.{IfOk}
-use Rattle.std.specs.Option.{option_map}
-use Rattle.pl_rewrite.specs.Taken.{files_in}
-use Rattle.pl_rewrite.specs.Verify.{verified_original}
-use Rattle.pl_rewrite.proofs.FileLaws.{found_name, found_own}
+use Rattle.std.proofs.Common.{sym, ap, ◌∙◌}
+use Rattle.std.proofs.lemmas.Option.{slice_get_within}
+use Rattle.std.proofs.lemmas.Result.{IfOk-weaker}
+use Rattle.pl_cone.specs.Taken.{files_in}
+use Rattle.pl_scope.proofs.NameLaws.{same_name}
+use Rattle.pl_rewrite.specs.Verify as spec
 use Rattle.pl_rewrite.proofs.VerifyLaws.{no_original}
 use Rattle.pl_rewrite.proofs.verifying.verified_original.Goals as goal
 
-pub original_if_verified-requires-clause-found : goal.original_if_verified-requires-clause-found
-original_if_verified-requires-clause-found c = found_own c.args.name.now c.args.files.now c.in-Some.taken.now (sym c.in-Some.ensures)
+pub returns-in_default : goal.returns-in_default
+returns-in_default c = no_original c.args.files.now c.args.name.now (sym c.in_default.ensures)
 
-pub returns-in-None : goal.returns-in-None
-returns-in-None c = no_original c.args.files.now c.args.name.now c.in-None.ensures
+pub original_at-requires-clause-row : goal.original_at-requires-clause-row
+original_at-requires-clause-row c = slice_get_within c.args.files.now c.in-Some.row c.in-Some.ensures.0 c.in-Some.ensures.1
 
-pub returns-in-Some : goal.returns-in-Some
-returns-in-Some c =
-    subst (λ (n : List ℕ). IfOk c.original_if_verified.result (λ (original : Option (Bor (List ℕ))). option_map (λ (bytes : Bor (List ℕ)). bytes.now) original ≡ verified_original (files_in c.args.files.now) n))
-    (found_name c.args.name.now c.args.files.now c.in-Some.taken.now (sym c.in-Some.ensures)) c.original_if_verified.ensures
+pub returns : goal.returns
+returns c =
+    let t = c.in-Some.ensures.0 in
+    let name = same_name t.name c.args.name.now c.in-Some.ensures.2 in
+    IfOk-weaker c.original_at.result _ _ (λ original is. is t c.in-Some.ensures.1 ∙ ap (spec.verified_original (files_in c.args.files.now)) name) c.original_at.ensures

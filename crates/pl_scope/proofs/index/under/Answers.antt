@@ -1,7 +1,7 @@
-use Rattle.std.proofs.Common.{◌≡◌, ℕ, true, subst, arith}
+use Rattle.std.proofs.Common.{◌≡◌, ℕ, true, ◌∙◌, ap, sym, subst, arith}
 use Rattle.std.specs.List.{list_any}
-use Rattle.pl_scope.specs.Index.{is_entry}
-use Rattle.pl_scope.proofs.IndexLaws.{in_order, under_whole, under_among}
+use Rattle.pl_scope.specs.Index.{entries_of, is_entry}
+use Rattle.pl_scope.proofs.IndexLaws.{in_order, under_whole, under_among, under_exact}
 use Rattle.pl_scope.proofs.index.under.Goals as goal
 
 pub slice_bounds-result-end : goal.slice_bounds-result-end
@@ -21,3 +21,12 @@ returns-clause-whole c = λ m hit.
 
 pub returns-clause-among : goal.returns-clause-among
 returns-clause-among c = under_among c.args.index.now c.from-hash.result c.before-first.result c.before-end.result c.before-first.ensures.point c.before-end.ensures.point c.before-first.ensures.bound c.before-end.ensures.bound
+
+pub returns-clause-exact : goal.returns-clause-exact
+returns-clause-exact c =
+    let same : c.args.hash ≡ c.from-hash.result = omega arith in
+    let first = c.before-first.ensures in
+    let end = c.before-end.ensures in
+    under_exact c.args.index.now c.from-hash.result c.before-first.result c.before-end.result first.point end.point first.bound end.bound
+    (in_order c.args.index.now c.from-hash.result c.before-first.result c.before-end.result first.point end.point first.bound end.bound)
+    ∙ ap (entries_of c.args.index.now) (sym same)

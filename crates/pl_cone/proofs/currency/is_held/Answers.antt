@@ -1,0 +1,21 @@
+use Rattle.std.proofs.Common.{◌≡◌, ℕ, ◌<◌, List, [], ◌∷◌, length, drop, get_or, Option, refl, sym, ap, ◌∙◌, arith}
+use Rattle.std.proofs.lemmas.Bool.{eqb-false}
+use Rattle.std.proofs.lemmas.Option.{slice_get_read}
+use Rattle.pl_cone.specs.Currency.{holds, holds_at, is_held}
+use Rattle.pl_cone.specs.declared.taken.Taken.{Taken}
+use Rattle.pl_cone.proofs.WalkLaws.{others_are}
+use Rattle.pl_cone.proofs.currency.is_held.Goals as goal
+
+first : (ts : List Taken) (walk : List ℕ) (t : Taken) (place : ℕ) → 0 < length walk → get_or walk 0 0 < length ts → t ≡ get_or ts (get_or walk 0 0) t → holds ts t (drop 1 walk) place ≡ is_held ts walk place
+first ts [] t place some lt is = absurd (omega (arith, some))
+first ts (r ∷ rows) t place some lt is = sym (ap (λ (x : Option Taken). holds_at ts x rows place) (slice_get_read ts (length ts) r t refl lt is))
+
+pub holds-requires : goal.holds-requires
+holds-requires c = rw c.others.ensures (others_are c.args.files.now c.args.walk.now c.requires)
+
+pub returns : goal.returns
+returns c =
+    let some : 0 < length c.args.walk.now = omega (arith, eqb-false (length c.args.walk.now) 0 (sym c.is_empty.ensures ∙ c.if-is_empty.false)) in
+    c.holds.ensures
+    ∙ (ap (λ (rows : List ℕ). holds c.args.files.now c.index-files-walk.result rows c.args.place) c.others.ensures
+    ∙ first c.args.files.now c.args.walk.now c.index-files-walk.result c.args.place some (c.requires.within 0 0 some) c.index-files-walk.is)

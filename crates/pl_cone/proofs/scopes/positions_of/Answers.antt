@@ -1,0 +1,23 @@
+use Rattle.std.proofs.Common.{◌≡◌, ◌<◌, ◌≤◌, ℕ, List, length, Option, None, sym, ap, ◌∙◌}
+use Rattle.std.proofs.lemmas.List.{at_drop_more, at_drop_all}
+use Rattle.pl_cone.specs.Table.{positions_from, positions_of}
+use Rattle.pl_cone.proofs.AmongLaws.{length_none, length_set}
+use Rattle.pl_cone.proofs.scopes.positions_of.Goals as goal
+
+pub loop-member-init : goal.loop-member-init
+unfolding positions_of
+loop-member-init c = record {
+  places = ap (λ (ps : List (Option ℕ)). positions_from 0 ps c.args.rows.now) c.in_ok-positions.ensures;
+  size = ap length c.in_ok-positions.ensures ∙ length_none c.args.count None;
+}
+
+pub loop-member-preserved : goal.loop-member-preserved
+unfolding positions_from
+loop-member-preserved c = record {
+  places = sym (at_drop_more (positions_from c.loop-member.member c.loop-member.positions.items) c.args.rows.now c.loop-member.member 0 c.loop-member-test.true) ∙ c.loop-member.invariant.places;
+  size = length_set c.loop-member.positions.items _ _ ∙ c.loop-member.invariant.size;
+}
+
+pub returns : goal.returns
+unfolding positions_from
+returns c = sym (at_drop_all (positions_from c.loop-member.member c.loop-member.positions.items) c.args.rows.now c.loop-member.member c.loop-member-test.false) ∙ c.loop-member.invariant.places

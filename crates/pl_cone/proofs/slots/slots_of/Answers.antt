@@ -1,0 +1,11 @@
+use Rattle.std.proofs.Common.{List, ap, ◌∙◌, map}
+use Rattle.pl_slots.specs.declared.slot.Slot.{Slot}
+use Rattle.pl_cone.specs.Slots.{start_at}
+use Rattle.pl_cone.proofs.slots.slots_of.Goals as goal
+
+pub returns : goal.returns
+returns c = (
+  c.in_ok-slots.ensures.value,
+  c.in_ok-slots.ensures.names,
+  c.in_ok-places.ensures ∙ (ap (λ (ss : List Slot). map (start_at ss) c.deref.result.now) c.as_slice.ensures ∙ ap (map (start_at c.in_ok-slots.slots)) (c.deref.ensures.value ∙ c.in_ok-wanting.ensures.positions)),
+)

@@ -1,6 +1,0 @@
-use Rattle.std.proofs.Common.{arith, sym}
-use Rattle.pl_conflict.proofs.RemainingLaws.{bytes_test}
-use Rattle.pl_conflict.proofs.remaining.is_same.Goals as goal
-
-pub returns : goal.returns
-returns c = sym (bytes_test c.args.held c.args.word (omega arith) (omega arith))

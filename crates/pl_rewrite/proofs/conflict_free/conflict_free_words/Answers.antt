@@ -1,9 +1,0 @@
-use Rattle.pl_rewrite.proofs.FirmLaws.{parts_are}
-use Rattle.pl_rewrite.proofs.HeldLaws.{none_held}
-use Rattle.pl_rewrite.proofs.conflict_free.conflict_free_words.Goals as goal
-
-pub returns-in_default : goal.returns-in_default
-returns-in_default c = none_held c.args.sources.now c.args.file.now c.args.one_word.now _ c.in_default.len_below c.new.ensures
-
-pub conflict_free_first-requires-clause-first : goal.conflict_free_first-requires-clause-first
-conflict_free_first-requires-clause-first c = (_, parts_are c.args.sources.now c.library-item.result c.in-len1-up.len_at_least c.library-item.is)

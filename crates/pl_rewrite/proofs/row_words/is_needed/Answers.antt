@@ -1,0 +1,18 @@
+use Rattle.std.proofs.Common.{Bool, false, sym, ap, ◌∙◌}
+use Rattle.std.specs.Prelude.{◌||◌}
+use Rattle.std.proofs.lemmas.Bool.{or_left}
+use Rattle.pl_rewrite.specs.RowWords.{is_asked}
+use Rattle.pl_rewrite.proofs.RowWordLaws.{asked_is}
+use Rattle.pl_rewrite.proofs.row_words.is_needed.Goals as goal
+
+pub returns-then-made : goal.returns-then-made
+returns-then-made c =
+    let made = c.args.needed.now.made.now in
+    let held = c.args.needed.now.held.now in
+    sym (or_left (is_asked made c.args.row) (is_asked held c.args.row) (sym (asked_is made c.args.row _ c.requires.made) ∙ c.if-made.true))
+
+pub returns : goal.returns
+returns c =
+    let made = c.args.needed.now.made.now in
+    let held = c.args.needed.now.held.now in
+    asked_is held c.args.row _ c.requires.held ∙ sym (ap (λ (b : Bool). b || is_asked held c.args.row) (sym (asked_is made c.args.row _ c.requires.made) ∙ c.if-made.false))

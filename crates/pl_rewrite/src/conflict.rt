@@ -1,0 +1,247 @@
+// The conflict rows of a program, and the words that its copies read.
+ghost use Rattle.std.specs.Prelude.{◌≡◌, ◌<◌, filter, true, length, IfErr, IfOk, OnOk};
+ghost use Rattle.std.specs.List.{All};
+ghost use Rattle.std.specs.List.Sorted.{IsNonDecreasingBy, IsPermutation};
+ghost use Rattle.std.specs.Str.{bytes_eq};
+ghost use Rattle.pl_base.specs.Bytes.{bytes64};
+ghost use Rattle.pl_base.specs.Sums.{plus};
+ghost use Rattle.pl_cone.specs.Links.{IsLinking, objects_of};
+ghost use Rattle.pl_scope.specs.Scope.{IsSymbol};
+ghost use Rattle.pl_value.specs.Definers.{IsSought};
+ghost use Rattle.pl_value.specs.Meanings.{is_memory};
+ghost use Rattle.pl_value.specs.Targets.{base_of};
+ghost use Rattle.pl_value.specs.Values.{reference};
+ghost use Rattle.pl_rewrite.specs.RemainingRows as spec;
+
+use crate::held::HeldWord;
+use crate::ranges::{is_near, ranges_of};
+use crate::row_words::RowWords;
+use pl_cone::{WalkLinking, sought};
+use pl_elf::Range;
+use pl_lists::ConflictRow;
+use pl_object::Reloc;
+use pl_scope::Found;
+use pl_value::{LinkFault, Meaning, OrdinaryFault, Places, Word, reference_of, word_of};
+use std::alloc::{AllocError, Global};
+
+/// What the relocations of the libraries of a program's walk make.
+#[derive(Drop)]
+pub struct RemainingRows {
+    /// The conflict rows.
+    pub rows: Vec<ConflictRow>,
+
+    /// The words that are given in the ranges from which the program copies.
+    pub near: Vec<Meaning>,
+}
+
+/// The place of a relocation of a member as loaded.
+fn start_of(places: &Places, member: u32, reloc: &Reloc) -> u64
+    requires { member < length places.now }
+    ensures { result ≡ plus (base_of places.now member) reloc.now.address }
+{
+    places.as_slice()[member as usize].wrapping_add(reloc.address)
+}
+
+/// The place of a relocation of a member, and what it gives, by what it finds; or its link refusal.
+#[tactic(auto, unfolding(pl_value::specs::Meanings::meaning))]
+pub fn meaning_with(
+    linking: &WalkLinking<'_, '_>,
+    member: u32,
+    reloc: &Reloc,
+    found: Option<Found>,
+) -> Result<Meaning, LinkFault>
+    requires linking { IsLinking linking.now }
+    requires member { member < length linking.now.places.now }
+    requires reference { IsSymbol (objects_of linking.now) member reloc.now.symbol }
+    requires found { IsSought (objects_of linking.now) (reference member reloc.now) found }
+    ensures { result ≡ spec.meaning_in linking.now member reloc.now }
+{
+    let word = word_of(
+        linking.scope,
+        linking.places,
+        linking.modules,
+        member,
+        reloc,
+        found,
+    )?;
+    Ok(Meaning {
+        member,
+        start: start_of(linking.places, member, reloc),
+        size: reloc.width,
+        word,
+    })
+}
+
+/// What a relocation of a member gives, by one look-up.
+fn meaning_of(
+    linking: &WalkLinking<'_, '_>,
+    member: u32,
+    reloc: &Reloc,
+) -> Result<Meaning, LinkFault>
+    requires linking { IsLinking linking.now }
+    requires member { member < length linking.now.places.now }
+    requires reference { IsSymbol (objects_of linking.now) member reloc.now.symbol }
+    ensures { result ≡ spec.meaning_in linking.now member reloc.now }
+{
+    let found = sought(linking.scope, reference_of(member, reloc), &linking.among);
+    meaning_with(linking, member, reloc, found)
+}
+
+/// Whether a word is the one that is held.
+fn is_same(held: u64, word: u64) -> bool
+    ensures { result ≡ bytes_eq (bytes64 held) (bytes64 word) }
+{
+    held == word
+}
+
+/// The row of a relocation at whose place its member's file holds this word.
+fn row_with(meaning: &Meaning, held: u64) -> Option<ConflictRow>
+    ensures { spec.IsRowBy meaning.now held result }
+{
+    let Word::Put(word) = meaning.word else {
+        return None;
+    };
+    if meaning.member == 0 {
+        return None;
+    }
+    if is_same(held, word) {
+        return None;
+    }
+    Some(ConflictRow {
+        address: meaning.start,
+        word,
+    })
+}
+
+/// Adds the rows of a member's remaining relocations, each looked up once; or the first relocation of the member that has no value. The others have one.
+fn add_rows(
+    linking: &WalkLinking<'_, '_>,
+    member: u32,
+    relocs: &[Reloc],
+    held: &[HeldWord],
+    rows: &mut Vec<ConflictRow>,
+) -> Result<(), OrdinaryFault>
+    requires linking { IsLinking linking.now }
+    requires member { member < length linking.now.places.now }
+    requires references { All (λ r. IsSymbol (objects_of linking.now) member r.symbol) relocs.now }
+    requires held { spec.TellsHeldOf linking.now member relocs.now held.now }
+    ensures added { OnOk result (spec.AddsRows linking.now member relocs.now held.now
+        rows.old.items rows.new.items) }
+    ensures refused { IfErr result (spec.RefusesOne linking.now member relocs.now) }
+{
+    for one in held {
+        let meaning = meaning_of(linking, member, &relocs[one.index as usize])?;
+        if let Some(row) = row_with(&meaning, one.word) {
+            rows.push(row)?;
+        }
+    }
+    Ok(())
+}
+
+/// Whether a word is given at a place near ranges.
+fn is_near_word(ranges: &[Range], meaning: &Meaning) -> bool
+    ensures { result ≡ spec.is_near_word ranges.now meaning.now }
+{
+    matches!(meaning.word, Word::Put(_)) && is_near(ranges, meaning.start)
+}
+
+/// Adds the words that a member's relocations give in the ranges from which the program copies. All have values.
+fn add_near(
+    linking: &WalkLinking<'_, '_>,
+    member: u32,
+    relocs: &[Reloc],
+    ranges: &[Range],
+    near: &mut Vec<Meaning>,
+) -> Result<(), OrdinaryFault>
+    requires linking { IsLinking linking.now }
+    requires member { member < length linking.now.places.now }
+    requires references { All (λ r. IsSymbol (objects_of linking.now) member r.symbol) relocs.now }
+    requires given { spec.AllHave linking.now member relocs.now }
+    ensures added { OnOk result (spec.AddsNear linking.now member relocs.now ranges.now
+        near.old.items near.new.items) }
+    ensures refused { IfErr result (λ fault. is_memory fault ≡ true) }
+{
+    for reloc in relocs {
+        if is_near(ranges, start_of(linking.places, member, reloc)) {
+            let meaning = meaning_of(linking, member, reloc)?;
+            if is_near_word(ranges, &meaning) {
+                near.push(meaning)?;
+            }
+        }
+    }
+    Ok(())
+}
+
+/// Adds the rows of a member, and the words that it gives in the ranges.
+fn add_member(
+    linking: &WalkLinking<'_, '_>,
+    member: u32,
+    held: &[HeldWord],
+    ranges: &[Range],
+    found_rows: &mut RemainingRows,
+) -> Result<(), OrdinaryFault>
+    requires linking { IsLinking linking.now }
+    requires member { member < length linking.now.scope.now }
+    requires held { spec.TellsOfMember linking.now member held.now }
+    ensures added { OnOk result (spec.AddsMember linking.now member held.now ranges.now
+        found_rows.old found_rows.new) }
+    ensures refused { IfErr result (spec.RefusesMember linking.now member) }
+{
+    let object = linking.scope.object(member);
+    let relocs = object.relocations.as_slice();
+    add_rows(linking, member, relocs, held, &mut found_rows.rows)?;
+    if ranges.is_empty() {
+        return Ok(());
+    }
+    add_near(linking, member, relocs, ranges, &mut found_rows.near)?;
+    Ok(())
+}
+
+/// Puts rows into ascending order of their addresses.
+fn sort_rows(rows: &mut Vec<ConflictRow>)
+    ensures rows { IsPermutation rows.old.items rows.new.items }
+    ensures sorted { IsNonDecreasingBy (λ r. r.address) rows.new.items }
+{
+    rows.sort_unstable_by_key(|row| row.address);
+}
+
+/// The words of the program itself that are given in the ranges from which it copies.
+fn own_near(alloc: Global, own: &[Meaning], ranges: &[Range]) -> Result<Vec<Meaning>, AllocError>
+    ensures { IfOk result (λ v. v.items ≡ filter (spec.is_near_word ranges.now) own.now) }
+{
+    own.iter()
+        .copied()
+        .filter(|meaning| is_near_word(ranges, meaning))
+        .collect(alloc)
+}
+
+/// The conflict rows of a program by the remaining relocations of its libraries, ascending by address, and the words of the walk that are given in the ranges from which the program copies, in the order of the relocations. `own` is what the program's own relocations give; `row_words` has for the library of each row of the walk its remaining relocations, with the words that its file holds at their places. Else the first relocation of the walk that has no value, or NoMemory.
+///
+/// The rows are those that `conflicts` of pl_conflict gives.
+pub fn remaining_rows(
+    alloc: Global,
+    linking: &WalkLinking<'_, '_>,
+    walk: &[u32],
+    row_words: &[RowWords],
+    own: &[Meaning],
+) -> Result<RemainingRows, OrdinaryFault>
+    requires linking { IsLinking linking.now }
+    requires row_words { spec.CanListRows linking.now walk.now row_words.now own.now }
+    ensures rows { IfOk result (λ o. spec.AreConflictRows linking.now walk.now row_words.now
+        o.rows.items) }
+    ensures near { IfOk result (λ o. spec.AreNear linking.now own.now o.near.items) }
+    ensures refused { IfErr result (spec.RefusesAll linking.now) }
+{
+    let ranges = ranges_of(alloc, own)?;
+    let mut found_rows = RemainingRows {
+        rows: Vec::new(alloc),
+        near: own_near(alloc, own, &ranges)?,
+    };
+    for member in 1..linking.scope.count() {
+        let row = walk[member as usize] as usize;
+        let held = row_words[row].held.as_slice();
+        add_member(linking, member, held, &ranges, &mut found_rows)?;
+    }
+    sort_rows(&mut found_rows.rows);
+    Ok(found_rows)
+}

@@ -1,0 +1,249 @@
+// The bytes at the places of a program: its own words, and what its copies read.
+ghost use Rattle.std.specs.Prelude.{◌≡◌, ◌<◌, IfOk, OnOk, drop, length, take};
+ghost use Rattle.pl_base.specs.Bytes.{bytes64};
+ghost use Rattle.pl_form.specs.Words as form;
+ghost use Rattle.pl_rewrite.specs.Copies as spec;
+ghost use Rattle.pl_rewrite.specs.Rows as rows;
+
+use crate::numbers::Numbered;
+use pl_base::{Rows, push64};
+use pl_elf::constants::R_X86_64_NONE;
+use pl_form::Fill;
+use pl_image::{LoadedObject, Patch, load_object};
+use pl_object::Reloc;
+use pl_value::{Meaning, Word, read};
+use std::alloc::{AllocError, Global};
+
+// ---- copies
+
+/// The memory of the original of a member of a walk at its place.
+fn loaded_at<'f>(
+    alloc: Global,
+    numbered: &Numbered<'f>,
+    row: usize,
+) -> Result<Option<LoadedObject<'f>>, AllocError>
+    requires numbered { rows.IsNumbered numbered.now }
+    requires row { row < length numbered.now.files.now }
+    requires placed { spec.IsPlacedRow numbered.now row }
+    ensures value { IfOk result (spec.IsLoadedAt numbered.now row) }
+    ensures loaded { IfOk result (λ l. spec.AreLoadedIfAny l) }
+{
+    let taken = &numbered.files[row];
+    let Some(object) = taken.object() else {
+        return Ok(None);
+    };
+    let loaded = load_object(alloc, object, taken.original(), numbered.places[row])?;
+    Ok(Some(loaded))
+}
+
+/// So many bytes of a member's memory, with patches over it.
+fn bytes_of(
+    alloc: Global,
+    numbered: &Numbered<'_>,
+    row: usize,
+    patches: &[Patch],
+    from: u64,
+    bytes: u64,
+) -> Result<Vec<u8>, AllocError>
+    requires numbered { rows.IsNumbered numbered.now }
+    requires row { row < length numbered.now.files.now }
+    requires placed { spec.IsPlacedRow numbered.now row }
+    ensures { IfOk result (λ v. spec.AreBytesOf numbered.now row patches.now from bytes v.items) }
+{
+    match loaded_at(alloc, numbered, row)? {
+        None => Ok(Vec::new(alloc)),
+        Some(loaded) => read(alloc, &[loaded], patches, from, bytes),
+    }
+}
+
+/// So many of the first bytes, as far as there are any.
+fn first_bytes(bytes: &[u8], count: usize) -> &[u8]
+    ensures { result.now ≡ take count bytes.now }
+{
+    let at = count.min(bytes.len());
+    &bytes[..at]
+}
+
+/// The bytes after so many of the first.
+fn bytes_after(bytes: &[u8], count: usize) -> &[u8]
+    ensures { result.now ≡ drop count bytes.now }
+{
+    let at = count.min(bytes.len());
+    &bytes[at..]
+}
+
+/// Bytes with others written over the first of them.
+fn put_first(alloc: Global, bytes: &[u8], first: &[u8]) -> Result<Vec<u8>, AllocError>
+    ensures { IfOk result (λ v. spec.PutsFirst first.now bytes.now v.items) }
+{
+    let over = first_bytes(first, bytes.len());
+    let rest = bytes_after(bytes, first.len());
+    let mut all = Vec::from_slice(alloc, over)?;
+    all.extend_from_slice(rest)?;
+    Ok(all)
+}
+
+// ---- fills
+
+/// What is asked of a program's places.
+#[derive(Clone, Copy)]
+pub struct Filling<'t> {
+    pub numbered: &'t Numbered<'t>,
+
+    /// The rows of the members of the program's walk, it first.
+    pub walk: &'t [u32],
+
+    /// The words of the walk in the ranges from which the program copies.
+    pub near: &'t [Patch],
+}
+
+/// The bytes of the program's original at the place of a relocation.
+fn standing_at(alloc: Global, filling: &Filling<'_>, reloc: &Reloc) -> Result<Vec<u8>, AllocError>
+    requires { spec.IsFilling filling.now }
+    ensures { IfOk result (λ v. spec.HasBytesAt filling.now reloc.now v.items) }
+{
+    let row = filling.walk[0] as usize;
+    bytes_of(
+        alloc,
+        filling.numbered,
+        row,
+        &[],
+        reloc.address,
+        reloc.width,
+    )
+}
+
+/// What is copied of a member's memory, with the words that stand there.
+fn copied(
+    alloc: Global,
+    filling: &Filling<'_>,
+    member: u32,
+    from: u64,
+    bytes: u64,
+) -> Result<Vec<u8>, AllocError>
+    requires filling { spec.IsFilling filling.now }
+    requires member { member < length filling.now.walk.now }
+    ensures { IfOk result (λ v. spec.AreCopied filling.now member from bytes v.items) }
+{
+    let row = filling.walk[member as usize] as usize;
+    bytes_of(alloc, filling.numbered, row, filling.near, from, bytes)
+}
+
+/// The bytes of a word, the lowest first.
+fn word_bytes(alloc: Global, word: u64) -> Result<Vec<u8>, AllocError>
+    ensures { IfOk result (λ v. v.items ≡ bytes64 word) }
+{
+    let mut bytes = Vec::new(alloc);
+    push64(&mut bytes, word)?;
+    Ok(bytes)
+}
+
+/// The bytes of the program's original at the place of a relocation, with what it copies over the first of them.
+fn copied_over(
+    alloc: Global,
+    filling: &Filling<'_>,
+    reloc: &Reloc,
+    member: u32,
+    from: u64,
+    bytes: u64,
+) -> Result<Vec<u8>, AllocError>
+    requires filling { spec.IsFilling filling.now }
+    requires member { member < length filling.now.walk.now }
+    ensures { IfOk result (λ v. spec.FillsCopy filling.now reloc.now member from bytes v.items) }
+{
+    let standing = standing_at(alloc, filling, reloc)?;
+    let first = copied(alloc, filling, member, from, bytes)?;
+    let before = standing.as_slice();
+    let over = first.as_slice();
+    let all = put_first(alloc, before, over)?;
+    Ok(all)
+}
+
+/// The bytes at the place of a relocation of the program: the word that it gives; or those of the original, where it gives nothing; or what it copies, and behind that the original's.
+fn bytes_at(
+    alloc: Global,
+    filling: &Filling<'_>,
+    reloc: &Reloc,
+    meaning: &Meaning,
+) -> Result<Vec<u8>, AllocError>
+    requires filling { spec.IsFilling filling.now }
+    requires member { spec.IsFillOf filling.now meaning.now.word }
+    ensures { IfOk result (λ v. spec.FillsBy filling.now reloc.now meaning.now.word v.items) }
+{
+    match meaning.word {
+        Word::Put(word) => word_bytes(alloc, word),
+        Word::Nothing => standing_at(alloc, filling, reloc),
+        Word::Copy {
+            member,
+            from,
+            bytes,
+        } => copied_over(alloc, filling, reloc, member, from, bytes),
+    }
+}
+
+/// The fill of a relocation of the program.
+fn fill_at(
+    alloc: Global,
+    filling: &Filling<'_>,
+    reloc: &Reloc,
+    meaning: &Meaning,
+) -> Result<Fill, AllocError>
+    requires filling { spec.IsFilling filling.now }
+    requires member { spec.IsFillOf filling.now meaning.now.word }
+    ensures { IfOk result (spec.IsFillAt filling.now reloc.now meaning.now) }
+{
+    let bytes = bytes_at(alloc, filling, reloc, meaning)?;
+    let rows = Rows::from_vec(bytes);
+    Ok(Fill {
+        address: reloc.address,
+        bytes: rows,
+    })
+}
+
+/// Whether a relocation has a place: NONE has none.
+fn has_place(reloc: &Reloc) -> bool
+    ensures { result ≡ form.has_place reloc.now }
+{
+    reloc.kind != R_X86_64_NONE
+}
+
+/// Adds the bytes at the place of a relocation of the program, unless it is NONE.
+fn push_fill(
+    alloc: Global,
+    fills: &mut Vec<Fill>,
+    filling: &Filling<'_>,
+    reloc: &Reloc,
+    meaning: &Meaning,
+) -> Result<(), AllocError>
+    requires filling { spec.IsFilling filling.now }
+    requires member { spec.IsFillOf filling.now meaning.now.word }
+    ensures { OnOk result (spec.AddsFill filling.now reloc.now meaning.now
+        fills.old.items fills.new.items) }
+{
+    let placed = has_place(reloc);
+    if !placed {
+        return Ok(());
+    }
+    let fill = fill_at(alloc, filling, reloc, meaning)?;
+    fills.push(fill)?;
+    Ok(())
+}
+
+/// The bytes at the places of a program, as its scope makes them: a fill for each of its own relocations that is not NONE, in their order. `meanings` are what these give.
+pub fn fills_of(
+    alloc: Global,
+    filling: &Filling<'_>,
+    relocs: &[Reloc],
+    meanings: &[Meaning],
+) -> Result<Vec<Fill>, AllocError>
+    requires filling { spec.IsFilling filling.now }
+    requires one_each { length meanings.now ≡ length relocs.now }
+    requires members { spec.AreFillsOf filling.now meanings.now }
+    ensures { IfOk result (λ v. spec.AreProgramFills filling.now relocs.now meanings.now v.items) }
+{
+    let mut fills = Vec::new(alloc);
+    for index in 0..relocs.len() {
+        push_fill(alloc, &mut fills, filling, &relocs[index], &meanings[index])?;
+    }
+    Ok(fills)
+}

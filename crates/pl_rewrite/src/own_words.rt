@@ -1,0 +1,98 @@
+// The own words of a library, kept until its file is made.
+ghost use Rattle.std.specs.Prelude.{◌≡◌, [], IfOk};
+ghost use Rattle.pl_rewrite.specs.Words as spec;
+
+use pl_base::Rows;
+use std::alloc::{AllocError, Global};
+use std::marker::Model;
+
+/// The own words of a library's relocations, in their order; a relocation may have none. They take nine bytes each, since a run keeps those of all stale libraries at once. Contracts see them as a list of words that may be there.
+#[derive(Drop)]
+pub struct OwnWords {
+    /// The words; 0 where there is none.
+    words: Rows<u64>,
+
+    /// Whether there is one.
+    given: Rows<bool>,
+}
+
+impl Model for OwnWords {
+    ghost use Rattle.std.specs.Prelude.{List, Option, ℕ};
+    ghost use Rattle.pl_rewrite.specs.Words.{words_by};
+
+    ghost Value = { List (Option ℕ) };
+
+    ghost view = { λ w. words_by w.words w.given };
+}
+
+fn word_by(word: u64, given: bool) -> Option<u64>
+    ensures { result ≡ spec.word_by word given }
+{
+    if given { Some(word) } else { None }
+}
+
+/// The words, with 0 where there is none.
+fn numbers_of(alloc: Global, rows: &[Option<u64>]) -> Result<Vec<u64>, AllocError>
+    ensures { IfOk result (λ v. v.items ≡ spec.numbers_of rows.now) }
+{
+    let mut numbers = Vec::with_capacity(alloc, rows.len())?;
+    for row in rows {
+        numbers.push(row.unwrap_or(0))?;
+    }
+    Ok(numbers)
+}
+
+/// Whether there is a word, of each.
+fn givens_of(alloc: Global, rows: &[Option<u64>]) -> Result<Vec<bool>, AllocError>
+    ensures { IfOk result (λ v. v.items ≡ spec.givens_of rows.now) }
+{
+    let mut givens = Vec::with_capacity(alloc, rows.len())?;
+    for row in rows {
+        givens.push(row.is_some())?;
+    }
+    Ok(givens)
+}
+
+/// The words, of numbers and whether there is one.
+#[tactic(auto, unfolding(crate::specs::Words::words_by))]
+fn words_from(alloc: Global, words: &[u64], given: &[bool]) -> Result<Vec<Option<u64>>, AllocError>
+    ensures { IfOk result (λ v. v.items ≡ spec.words_by words.now given.now) }
+{
+    words
+        .iter()
+        .zip(given)
+        .map(|(word, given)| word_by(*word, *given))
+        .collect(alloc)
+}
+
+impl OwnWords {
+    /// No words.
+    pub fn none(alloc: Global) -> OwnWords
+        ensures { result ≡ [] }
+    {
+        OwnWords {
+            words: Rows::new(alloc),
+            given: Rows::new(alloc),
+        }
+    }
+
+    /// These words.
+    pub fn of(alloc: Global, rows: &[Option<u64>]) -> Result<OwnWords, AllocError>
+        ensures { IfOk result (λ w. w ≡ rows.now) }
+    {
+        let words = numbers_of(alloc, rows)?;
+        let given = givens_of(alloc, rows)?;
+        Ok(OwnWords {
+            words: Rows::from_vec(words),
+            given: Rows::from_vec(given),
+        })
+    }
+
+    /// The words as rows.
+    pub fn rows(&self, alloc: Global) -> Result<Rows<Option<u64>>, AllocError>
+        ensures { IfOk result (λ rows. rows ≡ self.now) }
+    {
+        let rows = words_from(alloc, self.words.as_slice(), self.given.as_slice())?;
+        Ok(Rows::from_vec(rows))
+    }
+}

@@ -1,0 +1,208 @@
+// What the relocations of files give, once the slots are known.
+ghost use Rattle.std.specs.Prelude.{◌≡◌, ◌<◌, true, IfOk, length};
+ghost use Rattle.pl_rewrite.specs.Rows as spec;
+ghost use Rattle.pl_rewrite.specs.RowWords as by_rows;
+
+use crate::held::{HeldWord, held_remaining};
+use crate::numbers::Numbered;
+use crate::own_words::OwnWords;
+use pl_base::Rows;
+use pl_cone::Link;
+use pl_conflict::own_words_by;
+use pl_io::NoMemory;
+use pl_scope::Found;
+use std::alloc::{AllocError, Global};
+
+/// What the relocations of a file give, once the slots are known. What is not asked for is not there.
+#[derive(Drop)]
+pub struct RowWords {
+    /// Of a library whose file is made: the own word of each relocation, in their order.
+    pub words: OwnWords,
+
+    /// Of a library that a new program's walk holds: its remaining relocations, and the words that its prelinked file holds at their places.
+    pub held: Rows<HeldWord>,
+
+    /// Of a program: what each of its relocations finds.
+    pub found: Rows<Option<Found>>,
+}
+
+/// What is asked of files: whose own are made, and which libraries the walks of new programs hold. One flag of each for each row.
+#[derive(Clone, Copy)]
+pub struct Needed<'t> {
+    pub made: &'t [bool],
+    pub held: &'t [bool],
+}
+
+/// Nothing is asked.
+fn nothing(alloc: Global) -> RowWords
+    ensures { by_rows.IsNothing result }
+{
+    RowWords {
+        words: OwnWords::none(alloc),
+        held: Rows::new(alloc),
+        found: Rows::new(alloc),
+    }
+}
+
+/// The own words of the library of a row, by what its relocations find in its own walk.
+fn own_words_at(
+    alloc: Global,
+    numbered: &Numbered<'_>,
+    row: usize,
+    found: &[Option<Found>],
+) -> Result<Rows<Option<u64>>, NoMemory>
+    requires numbered { spec.IsNumbered numbered.now }
+    requires walk { spec.IsWalkRow numbered.now row }
+    requires found { by_rows.FindsRow numbered.now row found.now }
+    ensures { IfOk result (λ words. words ≡ by_rows.own_words_at numbered.now row) }
+{
+    let placed = numbered.placed(alloc, row)?;
+    let words = own_words_by(alloc, &placed.walk.scope, &placed.places, found)?;
+    Ok(words)
+}
+
+/// The words that the file of the library of a row holds at the places of its remaining relocations.
+fn held_of(
+    alloc: Global,
+    numbered: &Numbered<'_>,
+    row: usize,
+    words: &[Option<u64>],
+    remaining: &[u32],
+) -> Result<Rows<HeldWord>, AllocError>
+    requires numbered { spec.IsNumbered numbered.now }
+    requires row { spec.IsLibraryRow numbered.now row }
+    requires words { words.now ≡ by_rows.own_words_at numbered.now row }
+    requires remaining { by_rows.AreOfRow numbered.now row remaining.now }
+    ensures { IfOk result (by_rows.AreHeldAt numbered.now row remaining.now) }
+{
+    let taken = &numbered.files[row];
+    let Some(object) = taken.object() else {
+        return Ok(Rows::new(alloc));
+    };
+    let held = held_remaining(alloc, object, taken.original(), words, remaining)?;
+    Ok(held)
+}
+
+/// The words that the file of the library of a row holds, as `held_of` gives them, if they are asked for; else none.
+fn held_if(
+    alloc: Global,
+    numbered: &Numbered<'_>,
+    row: usize,
+    words: &[Option<u64>],
+    remaining: &[u32],
+    asked: bool,
+) -> Result<Rows<HeldWord>, AllocError>
+    requires numbered { spec.IsNumbered numbered.now }
+    requires row { spec.IsLibraryRow numbered.now row }
+    requires words { words.now ≡ by_rows.own_words_at numbered.now row }
+    requires remaining { by_rows.AreOfRow numbered.now row remaining.now }
+    ensures { IfOk result (λ held. asked ≡ true
+        → by_rows.AreHeldAt numbered.now row remaining.now held) }
+{
+    if !asked {
+        return Ok(Rows::new(alloc));
+    }
+    let held = held_of(alloc, numbered, row, words, remaining)?;
+    Ok(held)
+}
+
+/// These words, if they are asked for.
+fn kept_if(alloc: Global, words: &[Option<u64>], asked: bool) -> Result<OwnWords, AllocError>
+    ensures { IfOk result (λ w. asked ≡ true → w ≡ words.now) }
+{
+    if !asked {
+        return Ok(OwnWords::none(alloc));
+    }
+    let kept = OwnWords::of(alloc, words)?;
+    Ok(kept)
+}
+
+/// Whether anything is asked of a row.
+pub fn is_needed(needed: &Needed<'_>, row: usize) -> bool
+    requires made { row < length needed.now.made.now }
+    requires held { row < length needed.now.held.now }
+    ensures { result ≡ by_rows.is_needed needed.now row }
+{
+    let made = needed.made[row];
+    if made {
+        return true;
+    }
+    needed.held[row]
+}
+
+/// What is asked of a library.
+fn library_row_words(
+    alloc: Global,
+    numbered: &Numbered<'_>,
+    row: usize,
+    link: &Link,
+    needed: &Needed<'_>,
+) -> Result<RowWords, NoMemory>
+    requires numbered { spec.IsNumbered numbered.now }
+    requires row { row < length numbered.now.files.now }
+    requires library { spec.is_library_row numbered.now row ≡ true }
+    requires needed { by_rows.IsNeeded numbered.now needed.now }
+    requires link { by_rows.IsLinkAt numbered.now row link.now }
+    ensures { IfOk result (by_rows.AreRowWordsBy numbered.now row needed.now link.now) }
+{
+    let words = own_words_at(alloc, numbered, row, link.found.as_slice())?;
+    let own = words.as_slice();
+    let remaining = link.remaining.as_slice();
+    let kept = kept_if(alloc, own, needed.made[row])?;
+    let held = held_if(alloc, numbered, row, own, remaining, needed.held[row])?;
+    Ok(RowWords {
+        words: kept,
+        held,
+        found: Rows::new(alloc),
+    })
+}
+
+/// What is asked of a file, by what its relocations find.
+fn row_words_of(
+    alloc: Global,
+    numbered: &Numbered<'_>,
+    row: usize,
+    link: Link,
+    needed: &Needed<'_>,
+) -> Result<RowWords, NoMemory>
+    requires numbered { spec.IsNumbered numbered.now }
+    requires row { row < length numbered.now.files.now }
+    requires needed { by_rows.IsNeeded numbered.now needed.now }
+    requires link { by_rows.is_needed needed.now row ≡ true
+        → by_rows.IsLinkAt numbered.now row link }
+    ensures { IfOk result (by_rows.AreRowWordsBy numbered.now row needed.now link) }
+{
+    if numbered.files[row].is_library() {
+        if !is_needed(needed, row) {
+            return Ok(nothing(alloc));
+        }
+        return library_row_words(alloc, numbered, row, &link, needed);
+    }
+    Ok(RowWords {
+        words: OwnWords::none(alloc),
+        held: Rows::new(alloc),
+        found: link.found,
+    })
+}
+
+/// What is asked of all files, in their order. What the relocations of a library find is let go once its words are there.
+pub fn words_of_rows(
+    alloc: Global,
+    numbered: &Numbered<'_>,
+    links: Rows<Link>,
+    needed: &Needed<'_>,
+) -> Result<Vec<RowWords>, NoMemory>
+    requires numbered { spec.IsNumbered numbered.now }
+    requires needed { by_rows.IsNeeded numbered.now needed.now }
+    requires links { by_rows.AreLinks numbered.now (by_rows.is_needed needed.now) links }
+    ensures { IfOk result (λ v. by_rows.AreRowWords numbered.now needed.now v.items) }
+{
+    let mut all = Vec::new(alloc);
+    let items = links.into_vec();
+    for link in items {
+        let row = all.len();
+        let one = row_words_of(alloc, numbered, row, link, needed)?;
+        all.push(one)?;
+    }
+    Ok(all)
+}

@@ -1,0 +1,84 @@
+-- The definers of the objects of a folder by the hashes of their names, and a scope of some of these objects.
+use Rattle.std.specs.Prelude.{◌≡◌, ◌≤◌, ◌<◌, ⊤, ◌+◌, ◌*◌, ℕ, Bool, true, ◌&&◌, ◌==◌, List, [], ◌∷◌, ◌++◌, length, slice_get, Option, Some, None}
+use Rattle.std.specs.List.{All, filter_map, list_any}
+use Rattle.std.specs.Option.{option_map}
+use Rattle.pl_elf.specs.Kinds.{is_program}
+use Rattle.pl_hash.specs.Hash.{gnu}
+use Rattle.pl_object.specs.declared.object.Object.{Object}
+use Rattle.pl_scope.specs.Index.{IsIndex, best_of, entries_of, entry_of, is_entry}
+use Rattle.pl_scope.specs.declared.folder.Among.{Among}
+use Rattle.pl_scope.specs.declared.found.Found.{Found}
+use Rattle.pl_scope.specs.declared.index.Entry.{Entry}
+use Rattle.pl_scope.specs.declared.lookup.Way.{Way}
+use Rattle.pl_scope.specs.declared.lookup.Way.TheVariants as ways
+use Rattle.pl_scope.specs.declared.lookup.Way.TheVariants.{InOrder, Indexed, InLists}
+use Rattle.pl_scope.specs.declared.wanted.Wanted.{Wanted}
+use Rattle.pl_sym.specs.Definers.{is_definer}
+use Rattle.pl_sym.specs.declared.class.Class.TheVariants.{Other}
+use Rattle.pl_sym.specs.declared.symbol.Symbol.{Symbol}
+
+-- ---- the index of a folder
+
+-- the definers of the object of a row, which may have none
+abbrev pub entries_at : ℕ → Option Object → List Entry
+entries_at row None = []
+entries_at row (Some o) = filter_map (entry_of o row) o.symbols
+
+-- those of the objects of rows from one on
+unfoldable pub all_from : ℕ → List (Option Object) → List Entry
+all_from row [] = []
+all_from row (o ∷ os) = entries_at row o ++ all_from (row + 1) os
+
+abbrev pub all_entries : List (Option Object) → List Entry
+all_entries objects = all_from 0 objects
+
+-- hashes count before rows
+abbrev pub order_of : Entry → ℕ
+order_of e = e.hash * 4294967296 + e.member
+
+abbrev pub is_same : Entry → Entry → Bool
+is_same x y = x.hash == y.hash && x.member == y.member
+
+-- the number of a row has 32 bits
+abbrev pub AreSmallRows : List Entry → Type 0
+AreSmallRows es = All (λ e. e.member < 4294967296) es
+
+-- each definer of each object is there, under its name's hash, and nothing else is
+abbrev pub IsFolderIndex : List (Option Object) → List Entry → Type 0
+IsFolderIndex objects index = (hash row : ℕ) → list_any (is_entry hash row) index ≡ list_any (is_entry hash row) (all_entries objects)
+
+-- a name's hash has one entry at most
+abbrev pub HasOneEntryAtMost : List Entry → List ℕ → Type 0
+HasOneEntryAtMost index name = length (entries_of index (gnu name)) ≤ 1
+
+-- ---- a scope of objects of a folder
+
+abbrev pub position_in : Option (Option ℕ) → Option ℕ
+position_in None = None
+position_in (Some member) = member
+
+-- the member that the object of an entry is
+abbrev pub position_of : List (Option ℕ) → Entry → Option ℕ
+position_of positions e = position_in (slice_get positions e.member)
+
+-- an entry of the folder as one of the scope
+abbrev pub placed : List (Option ℕ) → Entry → Option Entry
+placed positions e = option_map (λ member. record { hash = e.hash; member = member }) (position_of positions e)
+
+-- rows stand at members, and each definer of each member has an entry under its name's hash whose row stands at that member
+pub record IsIndexAmong (objects : List Object) (among : Among) : Type 0 where
+  pub within : (row member : ℕ) → position_in (slice_get among.positions.now row) ≡ Some member → member < length objects
+  pub whole : (m i : ℕ) (o : Object) (s : Symbol) → slice_get objects m ≡ Some o → slice_get o.symbols i ≡ Some s → is_definer s Other (is_program o.kind) ≡ true
+      → list_any (λ e. e.member == m) (filter_map (placed among.positions.now) (entries_of among.index.now (gnu s.name))) ≡ true
+
+-- what is found with one row more
+abbrev pub best_at : List Object → Wanted → ℕ → Option Found → Option ℕ → Option Found
+best_at objects w start best None = best
+best_at objects w start best (Some member) = best_of objects w.name.now w.class (option_map (λ x. x.now) w.version) start best member
+
+-- where an index is used it is that of the scope, or of the folder whose objects the scope has
+abbrev pub IsWay : List Object → Way → Type 0
+IsWay objects InOrder = ⊤
+IsWay objects (Indexed index) = IsIndex objects index.now
+IsWay objects (ways.Among among) = IsIndexAmong objects among.now
+IsWay objects InLists = ⊤

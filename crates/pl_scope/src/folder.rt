@@ -1,0 +1,136 @@
+// The definers of the objects of a folder, by the hashes of their names.
+ghost use Rattle.std.specs.Prelude.{◌≡◌, ◌<◌, ◌^◌, IfOk, OnOk, ◌++◌, length, map};
+ghost use Rattle.std.specs.Bool.{OnFalse};
+ghost use Rattle.std.specs.List.{dedup};
+ghost use Rattle.std.specs.List.Sorted.{IsNonDecreasingBy, IsPermutation};
+ghost use Rattle.std.specs.Option.{option_map};
+ghost use Rattle.pl_scope.specs.Index as index;
+ghost use Rattle.pl_scope.specs.Folder as spec;
+
+use crate::index::{Entry, add_entries, under};
+use pl_hash::gnu_hash;
+use pl_io::NoMemory;
+use pl_object::Object;
+use std::alloc::{AllocError, Global};
+use std::marker::Model;
+
+/// The definers of the objects of a folder: for each hash of a name in a GNU table the rows of the objects that define a name of that hash. Contracts see it as the list of its entries.
+#[derive(Drop)]
+pub struct Index {
+    entries: Vec<Entry>,
+}
+
+impl Model for Index {
+    ghost use Rattle.std.specs.Prelude.{List};
+    ghost use Rattle.std.specs.List.Sorted.{IsNonDecreasingBy};
+    ghost use Rattle.pl_scope.specs.declared.index.Entry.{Entry};
+
+    ghost Value = { List Entry };
+
+    ghost view = { λ i. i.entries.items };
+
+    ghost invariant = { λ i. IsNonDecreasingBy (λ e. e.hash) i.entries.items };
+}
+
+/// An index of a folder, and where the objects of its rows stand in a scope.
+#[derive(Clone, Copy)]
+pub struct Among<'i> {
+    pub index: &'i Index,
+
+    /// For each row of the folder the member of the scope that it is, if it is one.
+    pub positions: &'i [Option<u32>],
+}
+
+/// Adds the definers of the object of a row, if it has one.
+fn add_row(entries: &mut Vec<Entry>, object: Option<&Object>, row: u32) -> Result<(), AllocError>
+    ensures { OnOk result (entries.new.items ≡ entries.old.items
+        ++ spec.entries_at row (option_map (λ o. o.now) object.entry)) }
+{
+    match object {
+        None => Ok(()),
+        Some(object) => add_entries(entries, object, row),
+    }
+}
+
+/// The definers of all objects, one object after the other.
+fn all_entries(alloc: Global, objects: &[Option<&Object>]) -> Result<Vec<Entry>, AllocError>
+    requires { length objects.now < 2 ^ 32 }
+    ensures all { IfOk result (λ v. v.items ≡ spec.all_entries
+        (map (option_map (λ o. o.now)) objects.now)) }
+    ensures rows { IfOk result (λ v. spec.AreSmallRows v.items) }
+{
+    let mut entries = Vec::new(alloc);
+    for row in 0..objects.len() {
+        add_row(&mut entries, objects[row], row as u32)?;
+    }
+    Ok(entries)
+}
+
+/// By what entries are put into order: their hashes, then their rows.
+fn order_of(entry: &Entry) -> u64
+    ensures { result ≡ spec.order_of entry.now }
+{
+    u64::from(entry.hash) * 4_294_967_296 + u64::from(entry.member)
+}
+
+/// Puts entries into the order of their hashes, and those of a hash into the order of their rows.
+fn sort_rows(entries: &mut Vec<Entry>)
+    requires { spec.AreSmallRows entries.old.items }
+    ensures same { IsPermutation entries.old.items entries.new.items }
+    ensures rising { IsNonDecreasingBy (λ e. e.hash) entries.new.items }
+{
+    entries.sort_unstable_by_key(|entry| order_of(entry));
+}
+
+fn is_same(entry: &Entry, other: &Entry) -> bool
+    ensures { result ≡ spec.is_same entry.now other.now }
+{
+    entry.hash == other.hash && entry.member == other.member
+}
+
+/// Drops each entry that is the one before it.
+fn drop_repeats(entries: &mut Vec<Entry>)
+    ensures { entries.new.items ≡ dedup spec.is_same entries.old.items }
+{
+    entries.dedup_by(|entry, other| is_same(entry, other));
+}
+
+impl Index {
+    /// The index of the objects of a folder; a row may have none. The time grows as `n log n` with their symbols. It fails only for want of memory, which comes before 2^32 rows.
+    pub fn of(alloc: Global, objects: &[Option<&Object>]) -> Result<Index, NoMemory>
+        ensures { IfOk result (spec.IsFolderIndex (map (option_map (λ o. o.now)) objects.now)) }
+    {
+        if objects.len() >= 4_294_967_296 {
+            return Err(NoMemory);
+        }
+        let mut entries = all_entries(alloc, objects)?;
+        sort_rows(&mut entries);
+        drop_repeats(&mut entries);
+        entries.shrink_to_fit();
+        Ok(Index { entries })
+    }
+
+    /// The entries of a hash, in the order of their rows.
+    pub fn entries_of(&self, hash: u32) -> &[Entry]
+        ensures { result.now ≡ index.entries_of self.now hash }
+    {
+        under(&self.entries, hash)
+    }
+
+    /// Whether two objects may define a name; where it is false, one at most does.
+    pub fn may_share(&self, name: &[u8]) -> bool
+        ensures { OnFalse result (spec.HasOneEntryAtMost self.now name.now) }
+    {
+        self.entries_of(gnu_hash(name)).len() > 1
+    }
+}
+
+/// The member of a scope that the object of an entry is, if it is one.
+pub fn position_of(among: &Among<'_>, entry: &Entry) -> Option<u32>
+    ensures { result ≡ spec.position_of among.now.positions.now entry.now }
+{
+    match among.positions.get(entry.member as usize) {
+        None => None,
+        Some(member) => *member,
+    }
+}
