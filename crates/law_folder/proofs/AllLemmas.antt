@@ -23,8 +23,8 @@ use Rattle.pl_journal.specs.Meaning.{mixed}
 use Rattle.pl_journal.specs.declared.change.Change.{Change}
 use Rattle.pl_journal.specs.declared.change.Change.TheVariants.{Put, Drop}
 use Rattle.pl_journal.proofs.NameLemmas.{equal, valid_not_own}
-use Rattle.pl_cone.specs.Plans.{planned}
-use Rattle.pl_cone.specs.Plans.{RunPlan}
+use Rattle.pl_rewrite.specs.Plans.{planned}
+use Rattle.pl_rewrite.specs.Plans.{RunPlan}
 use Rattle.pl_rewrite.specs.Changes.{change, changes, is_file, next, next_cache}
 use Rattle.pl_rewrite.specs.Changes as rewriting
 use Rattle.pl_rewrite.specs.Laws.{AreNames, IsMixed}

@@ -23,10 +23,10 @@ use Rattle.pl_cache.specs.declared.cache.Cache.{Cache}
 use Rattle.pl_conflict.specs.Format.{format}
 use Rattle.pl_elf.specs.declared.range.Range.{Range}
 use Rattle.law_folder.proofs.SlotLemmas.{Among, Fits, among_all, want_name, wants_among}
-use Rattle.pl_cone.specs.Plans.{candidates, is_candidate, planned, slots_of, walks, wants}
-use Rattle.pl_cone.specs.Skipped.{skip_causes}
-use Rattle.pl_cone.specs.Faulted.{of_plan}
-use Rattle.pl_cone.specs.Plans.{RunPlan}
+use Rattle.pl_rewrite.specs.Plans.{candidates, is_candidate, planned, slots_of, walks, wants}
+use Rattle.pl_rewrite.specs.Skipped.{skip_causes}
+use Rattle.pl_rewrite.specs.Faulted.{of_plan}
+use Rattle.pl_rewrite.specs.Plans.{RunPlan}
 use Rattle.pl_scope.specs.Members.{has}
 use Rattle.pl_scope.proofs.NameLaws.{eq_refl, has_cons, same_name}
 use Rattle.pl_share.specs.Disjoint.{disjoint}
@@ -42,8 +42,8 @@ use Rattle.std.proofs.lemmas.List.Folds.{find_at}
 use Rattle.pl_rewrite.specs.Laws.{AreNames}
 use Rattle.pl_rewrite.proofs.NamedLaws.{passed_at}
 use Rattle.pl_rewrite.proofs.SoundLaws.{candidate_named}
-use Rattle.pl_cone.specs.Plans.{position_of}
-use Rattle.pl_cone.specs.declared.asked.Asked.{Asked}
+use Rattle.pl_rewrite.specs.Plans.{position_of}
+use Rattle.pl_rewrite.specs.Asked.{Asked}
 use Rattle.pl_scope.proofs.NameLaws.{or_left, or_right}
 use Rattle.pl_share.specs.Shared.{WalksAreApart}
 use Rattle.pl_share.specs.Together.{are_together, walk_has}

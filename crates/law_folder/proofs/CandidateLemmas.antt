@@ -24,8 +24,8 @@ use Rattle.pl_batch.specs.declared.prelinking.Prelinking.{Prelinking}
 use Rattle.pl_cache.specs.Spelling.{ascend, is_cache, is_row}
 use Rattle.pl_cache.specs.declared.constants.TheConstants.{MAX_ROWS}
 use Rattle.pl_cache.specs.declared.cache.Cache.{Cache}
-use Rattle.pl_cone.specs.Plans.{slot_of}
-use Rattle.pl_cone.specs.declared.skip.Skip.{Skip}
+use Rattle.pl_rewrite.specs.Plans.{slot_of}
+use Rattle.pl_rewrite.specs.Skip.{Skip}
 use Rattle.pl_conflict.specs.Format.{format, mark_in, mark_of}
 use Rattle.pl_conflict.specs.Prelinked as prelinked
 use Rattle.pl_conflict.specs.Prelinked.{firm_of, has_numbers, is_version, library_file, objects_of}
@@ -39,21 +39,21 @@ use Rattle.law_folder.proofs.StampLemmas.{stamp_small}
 use Rattle.pl_form.specs.Files.{marked_in, original_in}
 use Rattle.pl_form.specs.declared.file.Marked.{Marked}
 use Rattle.pl_form.proofs.FilesLaws.{nothing_else_is_read}
-use Rattle.pl_cone.specs.Fits.{fit_in, links, resolves}
-use Rattle.pl_cone.specs.Plans.{is_candidate, stale, walks}
-use Rattle.pl_cone.specs.Skipped.{skip_causes}
-use Rattle.pl_cone.proofs.LinkLaws.{each_read}
+use Rattle.pl_rewrite.specs.Fits.{fit_in, links, resolves}
+use Rattle.pl_rewrite.specs.Plans.{is_candidate, stale, walks}
+use Rattle.pl_rewrite.specs.Skipped.{skip_causes}
+use Rattle.pl_rewrite.proofs.LinkLaws.{each_read}
 use Rattle.pl_object.specs.PlaceClauses.{last_load}
 use Rattle.pl_object.specs.Reads.{reads}
 use Rattle.pl_object.specs.declared.object.Object.{Object}
 use Rattle.pl_object.proofs.AcceptedLaws.{accepted}
 use Rattle.pl_form.proofs.AcceptedIs.{segments_are}
 use Rattle.pl_form.proofs.SomeLastLaws.{some_last}
-use Rattle.pl_cone.specs.Plans.{RunPlan}
+use Rattle.pl_rewrite.specs.Plans.{RunPlan}
 use Rattle.pl_rewrite.specs.Changes.{numbers}
 use Rattle.pl_rewrite.proofs.FormLaws.{IsOriginal, firm_member, firm_nowhere, no_fault, original_bytes, original_is}
 use Rattle.pl_rewrite.proofs.PlanLaws.{plan_stamp}
-use Rattle.pl_cone.proofs.SoundCandidateLaws.{sound_is}
+use Rattle.pl_rewrite.proofs.SoundCandidateLaws.{sound_is}
 use Rattle.pl_scope.specs.Members.{has, names}
 use Rattle.pl_scope.specs.Scope as scope
 use Rattle.pl_scope.specs.Walk.{Walked}

@@ -13,8 +13,8 @@ use Rattle.pl_cache.specs.Spelling.{cache_bytes, is_cache}
 use Rattle.pl_cache.specs.declared.cache.Cache.{Cache}
 use Rattle.pl_cache.proofs.CacheLaws.{read_again, read_takes}
 use Rattle.pl_folder.specs.declared.TheConstants.{STORED}
-use Rattle.pl_cone.specs.declared.fault.PlanningFault.{PlanningFault}
-use Rattle.pl_cone.specs.declared.fault.PlanningFault.TheVariants as plan
+use Rattle.pl_rewrite.specs.PlanningFault.{PlanningFault}
+use Rattle.pl_rewrite.specs.PlanningFault.TheVariants as plan
 use Rattle.pl_rewrite.specs.Rewriting.{rewrite}
 use Rattle.pl_rewrite.specs.declared.rewriting.Rewritten.{Rewritten}
 use Rattle.pl_batch.specs.All.{all_changes, all_made, asked_of, made_of_folder, made_of, made_with_cache, of_planning, spelled, with_cache}

@@ -19,7 +19,7 @@ use Rattle.pl_journal.specs.Rows.{rows_in}
 use Rattle.pl_journal.specs.Spelling.{are_rows}
 use Rattle.pl_journal.specs.declared.change.Change.{Change}
 use Rattle.pl_journal.specs.declared.change.Change.TheVariants.{Put, Drop}
-use Rattle.pl_cone.specs.Skipped.{skip_causes}
+use Rattle.pl_rewrite.specs.Skipped.{skip_causes}
 use Rattle.law_sound.specs.History.{IsEdit}
 use Rattle.law_sound.proofs.Theorems as theorems
 use Rattle.pl_batch.specs.Changes.{changes_by, changes_of, ready_by, run_meant}

@@ -21,7 +21,7 @@ use Rattle.pl_form.specs.declared.file.File.{File}
 use Rattle.pl_form.specs.declared.file.File.TheVariants.{Marked, Plain}
 use Rattle.pl_journal.specs.declared.change.Change.{Change}
 use Rattle.pl_journal.specs.declared.change.Change.TheVariants.{Drop, Put}
-use Rattle.pl_cone.specs.Plans.{RunPlan}
+use Rattle.pl_rewrite.specs.Plans.{RunPlan}
 use Rattle.pl_rewrite.specs.Changes.{change, changes}
 use Rattle.pl_batch.specs.All.{all_made, made_of_folder, put_cache}
 use Rattle.pl_change.specs.Changes.{fitting}

@@ -14,7 +14,7 @@ use Rattle.pl_value.specs.declared.meaning.Meaning.{Meaning}
 use Rattle.pl_conflict.specs.Conflicts.{ascending, conflicts, rows_of}
 use Rattle.pl_conflict.specs.Prelinked as prelinked
 use Rattle.pl_conflict.specs.Prelinked.{Firm, list_of, objects_of, parts_of, program_file, slots_of, version_of}
-use Rattle.pl_cone.specs.Fits.{resolves}
+use Rattle.pl_rewrite.specs.Fits.{resolves}
 use Rattle.law_folder.proofs.AlikeLemmas.{meanings_alike}
 
 -- ---- the links at the slots

@@ -18,7 +18,7 @@ use Rattle.pl_journal.specs.Spelling.{are_rows}
 use Rattle.pl_journal.specs.declared.change.Change.{Change}
 use Rattle.pl_journal.specs.declared.change.Change.TheVariants.{Drop, Put}
 use Rattle.pl_journal.proofs.NameLemmas.{apart}
-use Rattle.pl_cone.specs.Plans.{RunPlan}
+use Rattle.pl_rewrite.specs.Plans.{RunPlan}
 use Rattle.pl_rewrite.specs.Changes.{change, changes, is_file, next, put}
 use Rattle.pl_rewrite.proofs.SoundLaws.{names_stay, next_is_from_scratch}
 use Rattle.pl_scope.specs.Members.{has}

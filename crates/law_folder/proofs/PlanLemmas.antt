@@ -23,8 +23,8 @@ use Rattle.pl_journal.specs.Names as own
 use Rattle.pl_journal.specs.Names.{is_row_name}
 use Rattle.pl_journal.specs.declared.change.Change.{Change}
 use Rattle.pl_journal.specs.declared.change.Change.TheVariants.{Put}
-use Rattle.pl_cone.specs.Plans.{planned}
-use Rattle.pl_cone.specs.Plans.{RunPlan}
+use Rattle.pl_rewrite.specs.Plans.{planned}
+use Rattle.pl_rewrite.specs.Plans.{RunPlan}
 use Rattle.pl_rewrite.specs.Changes.{change, changes, is_file, next, next_cache, put}
 use Rattle.pl_rewrite.specs.Laws.{AreNames}
 use Rattle.pl_rewrite.specs.Reports.{report}

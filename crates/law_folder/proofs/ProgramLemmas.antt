@@ -12,7 +12,7 @@ use Rattle.pl_conflict.specs.Prelinked as prelinked
 use Rattle.pl_conflict.specs.Prelinked.{Firm, all_firm, are_set, firm_of, flat_of, has_numbers, list_of, load_window, objects_of, program_file, stored, version_of, windows_of}
 use Rattle.pl_elf.specs.Headers.{loads}
 use Rattle.pl_elf.specs.Kinds.{is_library}
-use Rattle.pl_cone.specs.Fits.{resolves}
+use Rattle.pl_rewrite.specs.Fits.{resolves}
 use Rattle.pl_object.specs.declared.object.Object.{Object}
 use Rattle.pl_rewrite.specs.Fills.{IsProgramSet}
 use Rattle.pl_rewrite.specs.Sources.{AreSources}

@@ -12,10 +12,10 @@ use Rattle.pl_base.proofs.TellsLaws.{cause_tells, either_tells, err_tells, ok_te
 use Rattle.pl_change.specs.Folder.{cache, valid_names}
 use Rattle.pl_batch.specs.Folder.{named}
 use Rattle.pl_batch.specs.declared.prelinking.Prelinking.{Prelinking}
-use Rattle.pl_cone.specs.Candidates.{all_formed, blocks, fit, formed, kind_of, check_links, of_link, resolved, zeros}
-use Rattle.pl_cone.specs.Skips.{of_tls, of_walk}
-use Rattle.pl_cone.specs.declared.skip.Skip.{Skip}
-use Rattle.pl_cone.specs.declared.skip.Skip.TheVariants as skips
+use Rattle.pl_rewrite.specs.Candidates.{all_formed, blocks, fit, formed, kind_of, check_links, of_link, resolved, zeros}
+use Rattle.pl_rewrite.specs.Skips.{of_tls, of_walk}
+use Rattle.pl_rewrite.specs.Skip.{Skip}
+use Rattle.pl_rewrite.specs.Skip.TheVariants as skips
 use Rattle.pl_conflict.specs.Format.{format, read_original}
 use Rattle.pl_elf.specs.Kinds.{is_library, is_program, is_static}
 use Rattle.pl_elf.specs.declared.kind.Kind.{Kind}
@@ -29,17 +29,17 @@ use Rattle.pl_form.specs.declared.constants.TheConstants.{STORED}
 use Rattle.pl_form.specs.declared.file.Marked.{Marked}
 use Rattle.pl_form.specs.declared.fault.FormFault.{FormFault}
 use Rattle.pl_form.specs.declared.fault.FormFault.TheVariants as forms
-use Rattle.pl_cone.specs.Faults.{fault_by, fault_in, fault_number}
-use Rattle.pl_cone.specs.Fits.{fit_in, links}
-use Rattle.pl_cone.specs.Plans.{is_candidate, is_current}
-use Rattle.pl_cone.specs.Skipped.{fault_at, of_refusal, skip_causes, skip_of}
-use Rattle.pl_cone.proofs.LinkLaws.{each_read, links_is}
+use Rattle.pl_rewrite.specs.Faults.{fault_by, fault_in, fault_number}
+use Rattle.pl_rewrite.specs.Fits.{fit_in, links}
+use Rattle.pl_rewrite.specs.Plans.{is_candidate, is_current}
+use Rattle.pl_rewrite.specs.Skipped.{fault_at, of_refusal, skip_causes, skip_of}
+use Rattle.pl_rewrite.proofs.LinkLaws.{each_read, links_is}
 use Rattle.pl_object.specs.PlaceClauses.{last_load}
 use Rattle.pl_object.specs.Reads.{reads}
 use Rattle.pl_object.specs.declared.object.Object.{Object}
 use Rattle.pl_object.specs.declared.refusal.Refusal.{Refusal}
 use Rattle.pl_object.specs.declared.refusal.Refusal.TheVariants as refusals
-use Rattle.pl_cone.specs.Plans.{RunPlan}
+use Rattle.pl_rewrite.specs.Plans.{RunPlan}
 use Rattle.pl_rewrite.specs.Changes.{next}
 use Rattle.pl_rewrite.specs.Reports.{marked_at, report, row_of, state_after, state_by, state_of}
 use Rattle.pl_rewrite.specs.declared.report.Report.{Report}

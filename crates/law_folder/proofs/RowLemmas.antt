@@ -33,7 +33,7 @@ use Rattle.pl_change.specs.Store.{installed, put, removed, stored_as}
 use Rattle.pl_change.specs.Undo.{added, all_pass, all_undone, asked_row, form_row, if_asked, if_valid, rows_of, undo_any, undo_asked, undone, with_row}
 use Rattle.pl_change.specs.declared.cause.Cause.{Cause}
 use Rattle.pl_change.specs.declared.cause.Cause.TheVariants as causes
-use Rattle.pl_cone.specs.Skipped.{skip_causes}
+use Rattle.pl_rewrite.specs.Skipped.{skip_causes}
 use Rattle.law_sound.specs.Rule.{Mark}
 
 -- ---- files

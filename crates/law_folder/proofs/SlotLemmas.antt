@@ -23,10 +23,10 @@ use Rattle.pl_folder.specs.Disk.{Name}
 use Rattle.pl_form.specs.Files.{original_in}
 use Rattle.pl_form.specs.Marks.{has_mark}
 use Rattle.pl_form.specs.declared.constants.TheConstants.{STORED}
-use Rattle.pl_cone.specs.Skipped.{skip_causes}
+use Rattle.pl_rewrite.specs.Skipped.{skip_causes}
 use Rattle.pl_object.specs.Reads.{reads}
 use Rattle.pl_object.specs.declared.object.Object.{Object}
-use Rattle.pl_cone.specs.Plans.{want_of}
+use Rattle.pl_rewrite.specs.Plans.{want_of}
 use Rattle.pl_share.specs.Disjoint as disjoint
 use Rattle.pl_share.specs.Shared as shared
 use Rattle.pl_share.specs.Shared.{IsSlotFor}

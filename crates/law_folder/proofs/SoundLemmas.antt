@@ -14,7 +14,7 @@ use Rattle.pl_journal.specs.Rows.{all_done, done, done_by, done_from, recovered,
 use Rattle.pl_journal.specs.declared.change.Change.{Change}
 use Rattle.pl_journal.specs.declared.row.Row.{Row}
 use Rattle.pl_journal.proofs.Done.{done_is, none_done, recovered_by, row_not_own}
-use Rattle.pl_cone.specs.Skipped.{skip_causes}
+use Rattle.pl_rewrite.specs.Skipped.{skip_causes}
 use Rattle.law_sound.proofs.Theorems.{no_files, others_write, verified}
 use Rattle.pl_change.specs.Commands.{IsBefore, Meaning}
 use Rattle.law_folder.specs.Laws.{EmptyIsSound, OthersStaySound, RecoveredKeepTheRule, RecoveriesStaySound, RuleIsEnough, RunsStaySound, SettledAreSound, SoundKeepTheRule, VerifiedAreSound}

@@ -15,10 +15,10 @@ use Rattle.pl_cache.specs.declared.constants.TheConstants.{MAX_ROWS}
 use Rattle.pl_elf.specs.declared.constants.TheConstants.{ADDRESS_LIMIT, PAGE}
 use Rattle.pl_elf.specs.declared.range.Range.{Range}
 use Rattle.pl_folder.specs.Disk.{Name}
-use Rattle.pl_cone.specs.Plans.{candidates, is_candidate, planned, slots, slots_of, stale, stamp_for, standings, walks, wants}
-use Rattle.pl_cone.specs.Faulted.{of_plan}
-use Rattle.pl_cone.specs.declared.asked.Asked.{Asked}
-use Rattle.pl_cone.specs.Plans.{RunPlan}
+use Rattle.pl_rewrite.specs.Plans.{candidates, is_candidate, planned, slots, slots_of, stale, stamp_for, standings, walks, wants}
+use Rattle.pl_rewrite.specs.Faulted.{of_plan}
+use Rattle.pl_rewrite.specs.Asked.{Asked}
+use Rattle.pl_rewrite.specs.Plans.{RunPlan}
 use Rattle.pl_rewrite.specs.Changes.{is_given, next_cache}
 use Rattle.pl_rewrite.proofs.PlanLaws.{plan_stamp}
 use Rattle.pl_share.specs.Disjoint.{disjoint}

@@ -7,20 +7,20 @@ use Rattle.std.specs.Prelude.{◌&&◌, ◌==◌, Ok, fold, length, map, max, na
 use Rattle.pl_base.specs.Answers.{because}
 use Rattle.pl_base.specs.Names.{is_valid_name}
 use Rattle.pl_base.proofs.AnswerLaws.{because_ok, ok_same, unless_ok}
-use Rattle.pl_cone.specs.Plans.{stamp_after}
-use Rattle.pl_cone.specs.declared.stamps.TheConstants.{LAST_STAMP}
-use Rattle.pl_cone.specs.declared.skip.ConeFault.TheVariants.{StampsSpent}
+use Rattle.pl_rewrite.specs.Plans.{stamp_after}
+use Rattle.pl_rewrite.specs.LastStamps.{LAST_STAMP}
+use Rattle.pl_rewrite.specs.ConeFault.TheVariants.{StampsSpent}
 use Rattle.pl_conflict.specs.Format.{format, mark_in, mark_of, row_of_list}
 use Rattle.pl_form.specs.Files.{marked_in}
 use Rattle.pl_form.specs.declared.file.Marked.{Marked}
 use Rattle.pl_form.specs.Marks.{IsMark}
 use Rattle.pl_form.proofs.FilesLaws.{nothing_else_is_read}
-use Rattle.pl_cone.specs.Plans.{greatest, greatest_of, stamp_for}
-use Rattle.pl_cone.specs.Skipped.{skip_causes}
+use Rattle.pl_rewrite.specs.Plans.{greatest, greatest_of, stamp_for}
+use Rattle.pl_rewrite.specs.Skipped.{skip_causes}
 use Rattle.pl_lists.specs.Lists.{are_distinct, is_row}
 use Rattle.pl_lists.specs.declared.list_row.ListRow.{ListRow}
-use Rattle.pl_cone.specs.Faulted.{of_cone}
-use Rattle.pl_cone.specs.declared.asked.Asked.{Asked}
+use Rattle.pl_rewrite.specs.Faulted.{of_cone}
+use Rattle.pl_rewrite.specs.Asked.{Asked}
 use Rattle.law_sound.specs.Rule.{Files, Row, mark_at}
 
 abbrev IsSmall : ℕ → Type 0

@@ -9,19 +9,19 @@ use Rattle.std.proofs.lemmas.Option.{none-some, same_Some}
 use Rattle.pl_base.specs.Answers.{◌>>=◌, because}
 use Rattle.pl_base.specs.Sums.{is_aligned}
 use Rattle.pl_base.proofs.AnswerLaws.{because_ok, bind_ok, ok_same}
-use Rattle.pl_cone.specs.Plans.{slot_of, start_of}
-use Rattle.pl_cone.specs.declared.skip.Skip.{Skip}
+use Rattle.pl_rewrite.specs.Plans.{slot_of, start_of}
+use Rattle.pl_rewrite.specs.Skip.{Skip}
 use Rattle.pl_conflict.specs.Format.{format}
 use Rattle.pl_elf.specs.Kinds.{is_library}
 use Rattle.pl_elf.specs.declared.range.Range.{Range}
 use Rattle.law_folder.proofs.SlotLemmas.{Among, Fits, want_name, wants_among}
-use Rattle.pl_cone.specs.Plans.{candidates, is_candidate, planned, slots, slots_of, stale, stamp_for, standings, walks, wants}
-use Rattle.pl_cone.specs.Skipped.{skip_causes}
+use Rattle.pl_rewrite.specs.Plans.{candidates, is_candidate, planned, slots, slots_of, stale, stamp_for, standings, walks, wants}
+use Rattle.pl_rewrite.specs.Skipped.{skip_causes}
 use Rattle.pl_object.specs.declared.object.Object.{Object}
-use Rattle.pl_cone.specs.Faulted.{of_plan}
-use Rattle.pl_cone.specs.Plans.{want_of}
-use Rattle.pl_cone.specs.declared.asked.Asked.{Asked}
-use Rattle.pl_cone.specs.Plans.{RunPlan}
+use Rattle.pl_rewrite.specs.Faulted.{of_plan}
+use Rattle.pl_rewrite.specs.Plans.{want_of}
+use Rattle.pl_rewrite.specs.Asked.{Asked}
+use Rattle.pl_rewrite.specs.Plans.{RunPlan}
 use Rattle.pl_rewrite.specs.Laws.{AreNames}
 use Rattle.pl_rewrite.proofs.NamedLaws.{passed_at}
 use Rattle.pl_rewrite.proofs.SoundLaws.{candidate_named}

@@ -9,9 +9,9 @@ use Rattle.pl_conflict.specs.Format.{Rule}
 use Rattle.pl_folder.specs.Disk.{View}
 use Rattle.pl_journal.specs.Meaning.{applied}
 use Rattle.pl_journal.specs.declared.change.Change.{Change}
-use Rattle.pl_cone.specs.Plans.{planned}
-use Rattle.pl_cone.specs.Skipped.{skip_causes}
-use Rattle.pl_cone.specs.Plans.{RunPlan}
+use Rattle.pl_rewrite.specs.Plans.{planned}
+use Rattle.pl_rewrite.specs.Skipped.{skip_causes}
+use Rattle.pl_rewrite.specs.Plans.{RunPlan}
 use Rattle.pl_rewrite.specs.Changes.{from_scratch, next, next_cache}
 use Rattle.pl_batch.specs.All.{asked_of}
 use Rattle.pl_batch.specs.Changes.{changes_of}

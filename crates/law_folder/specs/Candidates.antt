@@ -14,10 +14,10 @@ use Rattle.pl_conflict.specs.Prelinked.{Firm, all_firm, are_set, program_file}
 use Rattle.pl_elf.specs.declared.kind.Kind.TheVariants.{Program}
 use Rattle.pl_elf.specs.declared.range.Range.{Range}
 use Rattle.pl_form.specs.declared.constants.TheConstants.{STORED}
-use Rattle.pl_cone.specs.Plans.{is_candidate, planned}
-use Rattle.pl_cone.specs.Skipped.{skip_causes}
+use Rattle.pl_rewrite.specs.Plans.{is_candidate, planned}
+use Rattle.pl_rewrite.specs.Skipped.{skip_causes}
 use Rattle.pl_object.specs.declared.object.Object.{Object}
-use Rattle.pl_cone.specs.Plans.{RunPlan}
+use Rattle.pl_rewrite.specs.Plans.{RunPlan}
 use Rattle.pl_rewrite.specs.Changes.{next, numbers, prelinked}
 use Rattle.pl_rewrite.specs.Reports.{marked_at}
 use Rattle.pl_scope.specs.Members.{names}

@@ -12,7 +12,7 @@ use Rattle.pl_journal.specs.Meaning.{IsSettled, StandsBetween, StandsFor, applie
 use Rattle.pl_journal.specs.Names.{journal}
 use Rattle.pl_journal.specs.Rows.{recovered}
 use Rattle.pl_journal.specs.declared.change.Change.{Change}
-use Rattle.pl_cone.specs.Skipped.{skip_causes}
+use Rattle.pl_rewrite.specs.Skipped.{skip_causes}
 use Rattle.pl_place.specs.Policy.{Choice}
 use Rattle.pl_scope.specs.Members.{has}
 use Rattle.law_sound.specs.History.{IsAllowed}

@@ -7,10 +7,10 @@ use Rattle.pl_base.specs.Files.{Files}
 use Rattle.pl_batch.specs.All.{all_reported}
 use Rattle.pl_batch.specs.Folder.{named}
 use Rattle.pl_batch.specs.declared.prelinking.Prelinking.{Prelinking}
-use Rattle.pl_cone.specs.declared.skip.Skip.TheVariants.{Form}
+use Rattle.pl_rewrite.specs.Skip.TheVariants.{Form}
 use Rattle.pl_elf.specs.declared.range.Range.{Range}
-use Rattle.pl_cone.specs.Plans.{is_candidate}
-use Rattle.pl_cone.specs.Plans.{RunPlan}
+use Rattle.pl_rewrite.specs.Plans.{is_candidate}
+use Rattle.pl_rewrite.specs.Plans.{RunPlan}
 use Rattle.pl_rewrite.specs.declared.report.Report.{Report}
 use Rattle.pl_rewrite.specs.declared.report.ReportRow.{ReportRow}
 use Rattle.pl_rewrite.specs.declared.report.RowState.{RowState}

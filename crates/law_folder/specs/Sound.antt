@@ -4,7 +4,7 @@ use Rattle.pl_base.specs.Names.{is_valid_name}
 use Rattle.pl_conflict.specs.Format.{Rule}
 use Rattle.pl_folder.specs.Disk.{View}
 use Rattle.pl_journal.specs.Rows.{done}
-use Rattle.pl_cone.specs.Skipped.{skip_causes}
+use Rattle.pl_rewrite.specs.Skipped.{skip_causes}
 use Rattle.law_sound.specs.Rule.{Files}
 
 -- the files under valid names

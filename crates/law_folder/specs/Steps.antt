@@ -9,7 +9,7 @@ use Rattle.pl_conflict.specs.Format.{format}
 use Rattle.pl_folder.specs.Disk.{View}
 use Rattle.pl_journal.specs.Meaning.{applied}
 use Rattle.pl_journal.specs.declared.change.Change.{Change}
-use Rattle.pl_cone.specs.Skipped.{skip_causes}
+use Rattle.pl_rewrite.specs.Skipped.{skip_causes}
 use Rattle.pl_rewrite.specs.History.{Transition}
 use Rattle.law_sound.specs.Plan.{IsBounded}
 use Rattle.pl_change.specs.Changes.{removal_meant}

@@ -14,7 +14,7 @@ use Rattle.pl_change.specs.declared.cause.Cause.TheVariants.{FolderTooLarge, Too
 use Rattle.pl_conflict.specs.Format.{Rule, format}
 use Rattle.law_folder.specs.Sound.{named}
 use Rattle.law_folder.specs.Steps.{cache_or_none}
-use Rattle.pl_cone.specs.Skipped.{skip_causes}
+use Rattle.pl_rewrite.specs.Skipped.{skip_causes}
 use Rattle.pl_cache.specs.Reading.{read}
 use Rattle.pl_cache.specs.declared.cache.Cache.{Cache}
 use Rattle.law_sound.specs.Plan.{IsBounded}

@@ -17,7 +17,7 @@ use Rattle.pl_folder.specs.Disk.{View}
 use Rattle.pl_journal.specs.Meaning.{rows_for}
 use Rattle.pl_journal.specs.Spelling.{differ, name_of}
 use Rattle.pl_journal.specs.declared.change.Change.{Change}
-use Rattle.pl_cone.specs.Skipped.{skip_causes}
+use Rattle.pl_rewrite.specs.Skipped.{skip_causes}
 use Rattle.pl_place.specs.Policy.{Choice}
 use Rattle.pl_rewrite.specs.History.{Happened}
 use Rattle.pl_script.specs.declared.script.Event.{Event}

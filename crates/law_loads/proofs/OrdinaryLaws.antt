@@ -2,7 +2,7 @@
 use Rattle.std.proofs.Common.{subst}
 use Rattle.pl_conflict.specs.Format.{is_fast}
 use Rattle.law_loads.specs.LoadingFolder.{loading_folder}
-use Rattle.pl_cone.specs.Skipped.{skip_causes}
+use Rattle.pl_rewrite.specs.Skipped.{skip_causes}
 use Rattle.law_loads.specs.Paths.{SameAnswer, ordinary_load}
 use Rattle.law_loads.proofs.LoadingFolderLaws.{gives_given, rule_given}
 use Rattle.law_loads.proofs.HistoryLaws.{rule_held}

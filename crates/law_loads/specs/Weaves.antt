@@ -9,7 +9,7 @@ use Rattle.pl_base.specs.Answers.{because}
 use Rattle.pl_conflict.specs.Format.{is_fast}
 use Rattle.law_folder.specs.Sound.{KeepsTheRule}
 use Rattle.law_folder.specs.Steps.{IsPastAll}
-use Rattle.pl_cone.specs.Skipped.{skip_causes}
+use Rattle.pl_rewrite.specs.Skipped.{skip_causes}
 use Rattle.pl_loader.specs.declared.fault.LoadFault.{LoadFault}
 use Rattle.law_loads.specs.LoadingFolder.{loading_folder}
 use Rattle.law_loads.specs.Paths.{GivesFrom, SameAnswer, ordinary_load}

@@ -16,13 +16,13 @@ use Rattle.pl_folder.specs.Calls.{Calls}
 use Rattle.pl_folder.specs.Seen.{Seen, Done}
 use Rattle.pl_folder.specs.Taken.{taken}
 use Rattle.pl_journal.specs.declared.change.Change.{Change}
-use Rattle.pl_cone.specs.Plans.{planned, slots_of, stamp_for}
+use Rattle.pl_rewrite.specs.Plans.{planned, slots_of, stamp_for}
 use Rattle.pl_elf.specs.declared.range.Range.{Range}
-use Rattle.pl_cone.specs.Taken.{AreTaken, IsTaken, files_in, names_of, taken_of}
-use Rattle.pl_cone.specs.declared.taken.Taken.{Taken}
-use Rattle.pl_cone.specs.Faulted.{is_memory}
-use Rattle.pl_cone.specs.declared.fault.PlanningFault.{PlanningFault}
-use Rattle.pl_cone.specs.declared.fault.PlanningFault.TheVariants as planning
+use Rattle.pl_rewrite.specs.Taken.{AreTaken, IsTaken, files_in, names_of, taken_of}
+use Rattle.pl_rewrite.specs.TakenFile.{Taken}
+use Rattle.pl_rewrite.specs.Faulted.{is_memory}
+use Rattle.pl_rewrite.specs.PlanningFault.{PlanningFault}
+use Rattle.pl_rewrite.specs.PlanningFault.TheVariants as planning
 use Rattle.pl_rewrite.specs.Rewriting.{rewrite}
 use Rattle.pl_rewrite.specs.declared.rewriting.Rewritten.{Rewritten}
 use Rattle.pl_slots.specs.declared.slot.Slot.{Slot}

@@ -11,7 +11,7 @@ use Rattle.pl_object.specs.Reads.{reads}
 use Rattle.pl_object.specs.declared.object.Object.{Object}
 use Rattle.pl_object.specs.declared.refusal.Refusal.{Refusal}
 use Rattle.pl_object.specs.declared.refusal.Refusal.TheVariants.{Clause, NoMemory}
-use Rattle.pl_cone.specs.Taken.{entry_by, entry_in}
+use Rattle.pl_rewrite.specs.Taken.{entry_by, entry_in}
 use Rattle.pl_batch.specs.Folder.{size_by}
 
 of_read : (size : ℕ) (r : Result Object Refusal) → size_by size (entry_by (as_file r)) ≡ size

@@ -20,8 +20,8 @@ use Rattle.pl_change.specs.Folder.{all_files, valid_names}
 use Rattle.pl_batch.specs.Folder.{named}
 use Rattle.pl_change.specs.Names.{file_of, of_file}
 use Rattle.pl_change.specs.declared.cause.Cause.TheVariants as causes
-use Rattle.pl_cone.specs.Taken.{files_in, names_of}
-use Rattle.pl_cone.specs.declared.taken.Taken.{Taken}
+use Rattle.pl_rewrite.specs.Taken.{files_in, names_of}
+use Rattle.pl_rewrite.specs.TakenFile.{Taken}
 
 abbrev pub bytes_of : List Taken → List (List ℕ)
 bytes_of ts = map (λ t. t.bytes) ts

@@ -22,8 +22,8 @@ use Rattle.pl_change.specs.declared.fault.BatchFault.{BatchFault}
 use Rattle.pl_change.specs.declared.fault.BatchFault.TheVariants.{DiskFailed, NoMemory}
 use Rattle.pl_change.specs.declared.fault.BatchFault.TheVariants as faults
 use Rattle.pl_change.proofs.FindLemmas.{lacks, lacks_finds, no_asking, reads_on}
-use Rattle.pl_cone.specs.Taken.{IsTaken, names_of, taken_of}
-use Rattle.pl_cone.specs.declared.taken.Taken.{Taken}
+use Rattle.pl_rewrite.specs.Taken.{IsTaken, names_of, taken_of}
+use Rattle.pl_rewrite.specs.TakenFile.{Taken}
 use Rattle.pl_batch.proofs.FolderLemmas.{bytes_of}
 use Rattle.pl_change.proofs.UndoLemmas.{items}
 

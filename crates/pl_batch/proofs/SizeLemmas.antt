@@ -3,7 +3,7 @@ use Rattle.std.proofs.Common.{◌≡◌, ℕ, ◌+◌, ◌-◌, ◌≤◌, ◌<�
 use Rattle.std.proofs.lemmas.Bool.{le-ltb, lt-ltb}
 use Rattle.std.specs.Prelude.{fold, length, nat_lt}
 use Rattle.pl_form.specs.Files.{original_in}
-use Rattle.pl_cone.specs.declared.taken.Taken.{Taken}
+use Rattle.pl_rewrite.specs.TakenFile.{Taken}
 use Rattle.pl_batch.specs.Folder.{are_large}
 use Rattle.pl_change.specs.declared.room.TheConstants.{FOLDER}
 use Rattle.pl_batch.proofs.FolderLemmas.{bytes_of}

@@ -26,16 +26,16 @@ use Rattle.pl_form.specs.declared.constants.TheConstants.{STORED}
 use Rattle.pl_form.specs.declared.fault.FileFault.TheVariants as unread
 use Rattle.pl_form.specs.declared.file.Marked.{Marked}
 use Rattle.pl_journal.specs.Parts.{Looking}
-use Rattle.pl_cone.specs.Skipped.{skip_causes}
-use Rattle.pl_cone.specs.Taken.{AreTaken, IsTaken, entry_by, entry_in, files_in, names_of, taken_of}
-use Rattle.pl_cone.specs.declared.taken.Taken.{Taken}
-use Rattle.pl_cone.proofs.RuleLaws.{prelinked_same}
+use Rattle.pl_rewrite.specs.Skipped.{skip_causes}
+use Rattle.pl_rewrite.specs.Taken.{AreTaken, IsTaken, entry_by, entry_in, files_in, names_of, taken_of}
+use Rattle.pl_rewrite.specs.TakenFile.{Taken}
+use Rattle.pl_rewrite.proofs.RuleLaws.{prelinked_same}
 use Rattle.pl_object.specs.Reads.{reads}
 use Rattle.pl_object.specs.declared.object.Object.{Object}
 use Rattle.pl_object.specs.declared.refusal.Refusal.{Refusal}
 use Rattle.pl_object.specs.declared.refusal.Refusal.TheVariants as refusals
 use Rattle.pl_rewrite.specs.Verify as rewrite
-use Rattle.pl_cone.proofs.NamedFileLaws.{file_at, found_cons}
+use Rattle.pl_rewrite.proofs.NamedFileLaws.{file_at, found_cons}
 use Rattle.pl_rewrite.proofs.HistoryLaws.{form_reads}
 use Rattle.pl_scope.specs.Members.{has, names}
 use Rattle.pl_scope.specs.Walk.{IsUnderWay, Walked, added, begun, give, is_memory, of_wanted}

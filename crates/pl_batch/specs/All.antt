@@ -9,9 +9,9 @@ use Rattle.pl_cache.specs.declared.cache.Cache.{Cache}
 use Rattle.pl_folder.specs.Seen.{Seen}
 use Rattle.pl_journal.specs.declared.change.Change.{Change}
 use Rattle.pl_journal.specs.declared.change.Change.TheVariants.{Put}
-use Rattle.pl_cone.specs.declared.asked.Asked.{Asked}
-use Rattle.pl_cone.specs.declared.fault.PlanningFault.{PlanningFault}
-use Rattle.pl_cone.specs.declared.fault.PlanningFault.TheVariants as plan
+use Rattle.pl_rewrite.specs.Asked.{Asked}
+use Rattle.pl_rewrite.specs.PlanningFault.{PlanningFault}
+use Rattle.pl_rewrite.specs.PlanningFault.TheVariants as plan
 use Rattle.pl_rewrite.specs.Rewriting.{rewrite}
 use Rattle.pl_rewrite.specs.declared.report.Report.{Report}
 use Rattle.pl_rewrite.specs.declared.rewriting.Rewritten.{Rewritten}

@@ -7,8 +7,8 @@ use Rattle.pl_form.specs.Files.{original_in}
 use Rattle.pl_form.specs.declared.file.Entry.{Entry}
 use Rattle.pl_form.specs.declared.file.Entry.TheVariants.{There, BadMark, Refused}
 use Rattle.pl_form.specs.declared.file.File.TheVariants.{Plain, Marked}
-use Rattle.pl_cone.specs.Taken.{entry_in}
-use Rattle.pl_cone.specs.declared.taken.Taken.{Taken}
+use Rattle.pl_rewrite.specs.Taken.{entry_in}
+use Rattle.pl_rewrite.specs.TakenFile.{Taken}
 use Rattle.law_sound.specs.Rule as sound
 use Rattle.pl_change.specs.declared.room.TheConstants.{FOLDER}
 

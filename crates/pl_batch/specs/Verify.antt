@@ -8,8 +8,8 @@ use Rattle.pl_rewrite.specs.Format.{Causes, format}
 use Rattle.pl_elf.specs.declared.range.Range.{Range}
 use Rattle.pl_form.specs.declared.file.Entry.{Entry}
 use Rattle.pl_form.specs.declared.file.Entry.TheVariants as entries
-use Rattle.pl_cone.specs.Taken.{object_of}
-use Rattle.pl_cone.specs.declared.taken.Taken.{Taken}
+use Rattle.pl_rewrite.specs.Taken.{object_of}
+use Rattle.pl_rewrite.specs.TakenFile.{Taken}
 use Rattle.pl_object.specs.declared.object.Object.{Object}
 use Rattle.pl_object.specs.declared.refusal.Refusal.{Refusal}
 use Rattle.pl_object.specs.declared.refusal.Refusal.TheVariants as refusals

@@ -7,7 +7,7 @@ ghost use Rattle.pl_journal.specs.Spelling.{are_rows};
 ghost use Rattle.pl_journal.specs.declared.change.Change.TheVariants.{Put};
 ghost use Rattle.pl_change.specs.Answers.{Finds, BatchMeansAlone};
 ghost use Rattle.pl_change.specs.Folder as reading;
-ghost use Rattle.pl_cone.specs.Taken.{AreTaken, files_in, names_of};
+ghost use Rattle.pl_rewrite.specs.Taken.{AreTaken, files_in, names_of};
 ghost use Rattle.pl_batch.specs.All as spec;
 ghost use Rattle.pl_batch.specs.Changes.{changes_of};
 ghost use Rattle.pl_batch.specs.declared.run.Run.TheVariants as runs;
@@ -17,10 +17,9 @@ use crate::reading::{are_large, take_valid};
 use pl_base::{Rows, Text};
 use pl_cache::{Cache, is_cache, write_cache};
 use pl_change::{BatchFault, CACHE, Cause, are_many, ascend, cache_file, cache_in, fitting, list};
-use pl_cone::{Asked, PlanningFault, Taken};
 use pl_folder::Folder;
 use pl_journal::Change;
-use pl_rewrite::{Report, Rewritten, rewrite};
+use pl_rewrite::{Asked, PlanningFault, Report, Rewritten, Taken, rewrite};
 use std::alloc::{AllocError, Global};
 
 /// What a run that prelinks everything makes.

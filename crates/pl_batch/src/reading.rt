@@ -5,15 +5,15 @@ ghost use Rattle.pl_form.specs.Files.{original_in};
 ghost use Rattle.pl_change.specs.Answers.{Finds};
 ghost use Rattle.pl_change.specs.Folder.{all_files};
 ghost use Rattle.pl_change.specs.Names.{file_of};
-ghost use Rattle.pl_cone.specs.Taken.{IsTaken, names_of};
+ghost use Rattle.pl_rewrite.specs.Taken.{IsTaken, names_of};
 ghost use Rattle.pl_batch.specs.Folder as spec;
 
 use pl_base::{Rows, Text, is_valid_name};
 use pl_change::{BatchFault, FOLDER, take};
-use pl_cone::{Taken, take_file};
 use pl_elf::Range;
 use pl_folder::Folder;
 use pl_form::{Entry, File};
+use pl_rewrite::{Taken, take_file};
 use std::alloc::Global;
 
 /// The file of a name, with what it is; its original's form fault is that under a region of slots.

@@ -2,7 +2,7 @@
 ghost use Rattle.std.specs.Prelude.{◌≡◌, true, Ok, IfErr, IfOk};
 ghost use Rattle.std.specs.Option.{option_map};
 ghost use Rattle.pl_base.specs.Names.{is_valid_name};
-ghost use Rattle.pl_cone.specs.Taken.{AreTaken, IsTaken, files_in, names_of};
+ghost use Rattle.pl_rewrite.specs.Taken.{AreTaken, IsTaken, files_in, names_of};
 ghost use Rattle.pl_rewrite.specs.Verify as rewrite;
 ghost use Rattle.pl_scope.specs.Walking.{wants};
 ghost use Rattle.pl_change.specs.Answers.{Finds, BatchStopsAlone};
@@ -11,13 +11,12 @@ ghost use Rattle.pl_batch.specs.Verify as spec;
 use crate::reading::take_one;
 use pl_base::{Rows, Text, is_valid_name};
 use pl_change::{BatchFault, Cause};
-use pl_cone::Taken;
 use pl_elf::Range;
 use pl_folder::Folder;
 use pl_form::{Entry, File};
 use pl_io::NoMemory;
 use pl_object::Object;
-use pl_rewrite::verified_original;
+use pl_rewrite::{Taken, verified_original};
 use pl_scope::Order;
 use std::alloc::Global;
 

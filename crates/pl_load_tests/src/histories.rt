@@ -9,11 +9,10 @@ use pl_build::recipes::{EXAMPLES, Example};
 use pl_cases::{number, parts};
 use pl_change::{BatchFault, Cause, remove};
 use pl_cli::Status;
-use pl_cone::Skip;
 use pl_elf::Range;
 use pl_folder::{Folder, MemoryFolder, STORED, are_files};
 use pl_journal::Change;
-use pl_rewrite::{Report, ReportRow, RowState};
+use pl_rewrite::{Report, ReportRow, RowState, Skip};
 use std::alloc::Global;
 use std::test::Fail;
 

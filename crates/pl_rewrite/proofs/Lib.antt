@@ -64,3 +64,8 @@ pub mod NewFileLaws
 pub mod VerifyRowLaws
 pub mod VerifyFileLaws
 pub mod VerifyingLaws
+-- laws of what a run plans, for the crates above
+pub use Rattle.pl_cone.proofs.LinkLaws
+pub use Rattle.pl_cone.proofs.NamedFileLaws
+pub use Rattle.pl_cone.proofs.RuleLaws
+pub use Rattle.pl_cone.proofs.SoundCandidateLaws

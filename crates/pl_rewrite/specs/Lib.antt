@@ -21,3 +21,18 @@ pub mod Verify
 pub mod History
 -- the format of prelinked files, by which what is here is said
 pub use Rattle.pl_conflict.specs.Format
+-- what a run plans over a folder's files, by which what is here is said
+pub use Rattle.pl_cone.specs.Candidates
+pub use Rattle.pl_cone.specs.Faulted
+pub use Rattle.pl_cone.specs.Faults
+pub use Rattle.pl_cone.specs.Fits
+pub use Rattle.pl_cone.specs.Plans
+pub use Rattle.pl_cone.specs.Skipped
+pub use Rattle.pl_cone.specs.Skips
+pub use Rattle.pl_cone.specs.Taken
+pub use Rattle.pl_cone.specs.declared.asked.Asked
+pub use Rattle.pl_cone.specs.declared.fault.PlanningFault
+pub use Rattle.pl_cone.specs.declared.skip.ConeFault
+pub use Rattle.pl_cone.specs.declared.skip.Skip
+pub use Rattle.pl_cone.specs.declared.stamps.TheConstants as LastStamps
+pub use Rattle.pl_cone.specs.declared.taken.Taken as TakenFile

@@ -28,6 +28,7 @@ pub use laws::{
     histories_keep_the_rule, mixtures_keep_the_rule, names_stay, next_is_from_scratch,
     originals_stay, rows_make_the_files, runs_are_steps, stamps_name_files, verified_keep_the_rule,
 };
+pub use pl_cone::{Asked, PlanningFault, Skip, Taken, take_file};
 pub use report::{Report, ReportRow, RowState};
 pub use rewriting::{Rewritten, rewrite};
 pub use verifying::{is_verified, verified_original};

@@ -1,7 +1,7 @@
 -- Loads of a sound folder.
 use Rattle.std.proofs.Common.{ap}
 use Rattle.std.specs.FinMap.{get}
-use Rattle.pl_cone.specs.Skipped.{skip_causes}
+use Rattle.pl_rewrite.specs.Skipped.{skip_causes}
 use Rattle.pl_cli.specs.Answer.{text_answer}
 use Rattle.pl_safe.proofs.AnswerLaws.{answers_are_ordinary}
 use Rattle.law_folder.proofs.SoundLemmas.{sound_keep}

@@ -8,8 +8,8 @@ use Rattle.pl_base.specs.Names.{is_valid_name}
 use Rattle.pl_base.proofs.AnswerLaws.{bind_ok, because_ok, ok_same, unless_ok}
 use Rattle.pl_conflict.specs.Format.{Rule, format}
 use Rattle.pl_folder.specs.Disk.{Name}
-use Rattle.pl_cone.specs.Skipped.{skip_causes}
-use Rattle.pl_cone.proofs.RuleLaws.{matches_same, members_same, rule_is_one}
+use Rattle.pl_rewrite.specs.Skipped.{skip_causes}
+use Rattle.pl_rewrite.proofs.RuleLaws.{matches_same, members_same, rule_is_one}
 use Rattle.pl_scope.specs.Members.{has}
 use Rattle.law_sound.specs.Rule.{is_verified, original_at, walk_in}
 use Rattle.law_sound.proofs.Theorems as theorems

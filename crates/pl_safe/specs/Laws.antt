@@ -16,7 +16,7 @@ use Rattle.law_folder.specs.Safe.{IsSafeImage, after}
 use Rattle.law_folder.specs.Sound.{IsSound, named}
 use Rattle.law_folder.specs.Steps.{IsPastAll}
 use Rattle.pl_conflict.specs.Format.{format}
-use Rattle.pl_cone.specs.Skipped.{skip_causes}
+use Rattle.pl_rewrite.specs.Skipped.{skip_causes}
 use Rattle.pl_scope.specs.Members.{has}
 use Rattle.law_sound.specs.Rule.{matches, members}
 use Rattle.pl_journal.specs.Names.{journal}

@@ -11,7 +11,7 @@ use Rattle.pl_batch.specs.declared.prelinking.Prelinking.{Prelinking}
 use Rattle.law_folder.specs.Safe.{IsSafeImage, after}
 use Rattle.law_folder.specs.Sound.{IsSound}
 use Rattle.law_folder.specs.Steps.{IsPastAll}
-use Rattle.pl_cone.specs.Skipped.{skip_causes}
+use Rattle.pl_rewrite.specs.Skipped.{skip_causes}
 use Rattle.pl_words.specs.declared.command.Policy.{Policy}
 use Rattle.pl_cli.specs.Answer.{answer, text_answer}
 use Rattle.pl_cli.specs.Outside.{Outside}

@@ -17,7 +17,7 @@ use Rattle.law_loads.specs.Started.{Start, load}
 use Rattle.law_loads.specs.LoadFault.TheVariants.{NotThere}
 use Rattle.law_loads.specs.LoadingFolder.{loading_folder}
 use Rattle.law_loads.specs.Weaves.{file_seen}
-use Rattle.pl_cone.specs.Skipped.{skip_causes}
+use Rattle.pl_rewrite.specs.Skipped.{skip_causes}
 use Rattle.law_loads.specs.Paths.{ordinary_load}
 use Rattle.pl_place.specs.Policies.{lowest}
 use Rattle.law_loads.specs.Given.{given_from}

@@ -4,8 +4,8 @@ use Rattle.std.specs.Fmt.{decimal}
 use Rattle.std.specs.Char.{is_ascii_graphic}
 use Rattle.std.specs.List.{flat_map}
 use Rattle.pl_base.specs.Digits.{hex16, hex_digit, line_text}
-use Rattle.pl_cone.specs.declared.skip.Skip.{Skip}
-use Rattle.pl_cone.specs.declared.skip.Skip.TheVariants as skips
+use Rattle.pl_rewrite.specs.Skip.{Skip}
+use Rattle.pl_rewrite.specs.Skip.TheVariants as skips
 use Rattle.pl_loader.specs.declared.fault.LoadFault.{LoadFault}
 use Rattle.pl_loader.specs.declared.fault.LoadFault.TheVariants.{NotThere, BadMark, Refused, NotProgram, NeededIsProgram, TooMany, TlsTooLarge, NoPlace, NoMemory, Link}
 use Rattle.pl_texts.specs.declared.cause.Cause.{Cause}

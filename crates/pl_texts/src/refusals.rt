@@ -5,8 +5,8 @@ ghost use Rattle.pl_texts.specs.Refusals as spec;
 use crate::cause::Cause;
 use crate::symbol_text::push_symbol;
 use pl_base::{Rows, Text};
-use pl_cone::Skip;
 use pl_loader::LoadFault;
+use pl_rewrite::Skip;
 use pl_value::NamedFault;
 use std::alloc::{AllocError, Global};
 

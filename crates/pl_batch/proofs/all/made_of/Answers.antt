@@ -1,9 +1,9 @@
 use Rattle.std.proofs.Common.{sym, ◌∙◌, subst}
 use Rattle.std.specs.Prelude.{Result, Err}
 use Rattle.pl_base.specs.Answers.{Answers}
-use Rattle.pl_cone.specs.Taken.{files_in, names_of}
-use Rattle.pl_cone.specs.Faulted.{is_memory}
-use Rattle.pl_cone.specs.declared.fault.PlanningFault.{PlanningFault}
+use Rattle.pl_rewrite.specs.Taken.{files_in, names_of}
+use Rattle.pl_rewrite.specs.Faulted.{is_memory}
+use Rattle.pl_rewrite.specs.PlanningFault.{PlanningFault}
 use Rattle.pl_rewrite.specs.declared.rewriting.Rewritten.{Rewritten}
 use Rattle.pl_change.specs.Answers.{BatchMeansAlone}
 use Rattle.pl_change.specs.declared.fault.BatchFault.{BatchFault}

@@ -1,8 +1,8 @@
 use Rattle.std.proofs.Common.{◌≡◌, ℕ, List, map, sym, ◌∙◌, ap, subst}
 use Rattle.std.specs.List.{All}
 use Rattle.std.specs.Prelude.{string_bytes, Ok, Err}
-use Rattle.pl_cone.specs.Taken.{IsTaken, files_in, names_of}
-use Rattle.pl_cone.specs.declared.taken.Taken.{Taken}
+use Rattle.pl_rewrite.specs.Taken.{IsTaken, files_in, names_of}
+use Rattle.pl_rewrite.specs.TakenFile.{Taken}
 use Rattle.pl_batch.specs.All.{made_of_folder, made_of}
 use Rattle.pl_change.specs.Answers.{Finds, BatchMeansAlone}
 use Rattle.pl_batch.specs.Folder.{are_large}

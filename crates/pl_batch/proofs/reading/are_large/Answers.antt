@@ -1,7 +1,7 @@
 use Rattle.std.proofs.Math.ListN.{drop_of_length-le}
 use Rattle.std.proofs.Common.{List, drop, ◌+◌, refl, subst, sym}
 use Rattle.pl_journal.proofs.CarryLemmas.{drop_at}
-use Rattle.pl_cone.specs.declared.taken.Taken.{Taken}
+use Rattle.pl_rewrite.specs.TakenFile.{Taken}
 use Rattle.pl_batch.proofs.SizeLemmas.{LeftFor, all_left, goes_over, none_left, takes_up}
 use Rattle.pl_batch.proofs.reading.are_large.Goals as goal
 

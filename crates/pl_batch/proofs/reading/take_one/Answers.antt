@@ -3,7 +3,7 @@ use Rattle.pl_change.specs.Answers.{Finds}
 use Rattle.pl_change.specs.Names.{file_of}
 use Rattle.pl_change.specs.declared.fault.BatchFault.TheVariants.{NoMemory}
 use Rattle.pl_change.proofs.FindLemmas.{at_err}
-use Rattle.pl_cone.specs.Taken.{taken_of}
+use Rattle.pl_rewrite.specs.Taken.{taken_of}
 use Rattle.pl_batch.proofs.ReadLemmas.{bytes, one_lacks, one_name, one_taken, one_untaken}
 use Rattle.pl_batch.proofs.reading.take_one.Goals as goal
 

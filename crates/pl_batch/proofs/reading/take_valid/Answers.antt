@@ -12,8 +12,8 @@ use Rattle.pl_change.specs.Folder.{all_files}
 use Rattle.pl_change.specs.Names.{file_of}
 use Rattle.pl_change.specs.declared.fault.BatchFault.TheVariants.{NoMemory}
 use Rattle.pl_change.proofs.FindLemmas.{at_err}
-use Rattle.pl_cone.specs.Taken.{IsTaken}
-use Rattle.pl_cone.specs.declared.taken.Taken.{Taken}
+use Rattle.pl_rewrite.specs.Taken.{IsTaken}
+use Rattle.pl_rewrite.specs.TakenFile.{Taken}
 use Rattle.pl_batch.proofs.FolderLemmas.{bytes_of}
 use Rattle.pl_batch.proofs.ReadLemmas.{TakenSoFar, all_on, begins, bytes, end_names, ends, goes_on, lacks_at, skips, stops_at, valid_of}
 use Rattle.pl_batch.proofs.reading.take_valid.Goals as goal

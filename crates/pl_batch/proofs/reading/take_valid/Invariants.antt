@@ -1,7 +1,7 @@
 use Rattle.std.proofs.Common.{drop}
 use Rattle.std.specs.List.{All}
 use Rattle.pl_journal.specs.Lists.{texts}
-use Rattle.pl_cone.specs.Taken.{IsTaken}
+use Rattle.pl_rewrite.specs.Taken.{IsTaken}
 use Rattle.pl_batch.proofs.ReadLemmas.{TakenSoFar}
 use Rattle.pl_batch.proofs.reading.take_valid.Given as goal
 

@@ -1,5 +1,5 @@
 use Rattle.std.proofs.Common.{◌≡◌, Some, None, sym, arith}
-use Rattle.pl_cone.specs.Taken.{names_of}
+use Rattle.pl_rewrite.specs.Taken.{names_of}
 use Rattle.pl_scope.specs.Walking.{wants}
 use Rattle.pl_scope.proofs.WalkLaws.{give_given}
 use Rattle.pl_change.specs.Answers.{Finds, of_walk_fault}

@@ -2,7 +2,7 @@ use Rattle.std.proofs.Common.{◌≡◌, ℕ, List, true, false, Err, rules, sym
 use Rattle.pl_base.specs.Names.{is_valid_name}
 use Rattle.pl_base.proofs.NameLaws.{valid_length}
 use Rattle.pl_change.specs.Answers.{Finds}
-use Rattle.pl_cone.specs.declared.taken.Taken.{Taken}
+use Rattle.pl_rewrite.specs.TakenFile.{Taken}
 use Rattle.pl_batch.specs.Verify.{wanted_file}
 use Rattle.pl_change.specs.declared.cause.Cause.TheVariants.{NotThere}
 use Rattle.pl_change.specs.declared.fault.BatchFault.TheVariants.{Cause, NoMemory}

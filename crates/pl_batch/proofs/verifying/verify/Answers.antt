@@ -3,8 +3,8 @@ use Rattle.std.specs.Prelude.{Vec}
 use Rattle.std.specs.Option.{option_map}
 use Rattle.std.specs.declared.alloc.Global.{Global}
 use Rattle.pl_base.specs.Names.{is_valid_name}
-use Rattle.pl_cone.specs.Taken.{AreTaken, files_in}
-use Rattle.pl_cone.specs.declared.taken.Taken.{Taken}
+use Rattle.pl_rewrite.specs.Taken.{AreTaken, files_in}
+use Rattle.pl_rewrite.specs.TakenFile.{Taken}
 use Rattle.pl_rewrite.specs.Verify.{verified_original}
 use Rattle.pl_change.specs.Answers.{Finds}
 use Rattle.pl_batch.specs.Verify.{nowhere, verified}
