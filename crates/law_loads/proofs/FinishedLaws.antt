@@ -10,7 +10,7 @@ use Rattle.pl_conflict.specs.Format.{is_fast}
 use Rattle.law_folder.specs.Sound.{KeepsTheRule}
 use Rattle.law_folder.specs.Steps.{IsPastAll}
 use Rattle.pl_elf.specs.declared.range.Range.{Range}
-use Rattle.pl_rewrite.specs.Skips.{skip_causes}
+use Rattle.pl_rewrite.specs.Skipped.{skip_causes}
 use Rattle.pl_loader.specs.Loading.{Loading}
 use Rattle.pl_loader.specs.Started.{load}
 use Rattle.pl_loader.specs.declared.fault.LoadFault.{LoadFault}
