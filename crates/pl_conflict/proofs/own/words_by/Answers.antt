@@ -1,9 +1,13 @@
-use Rattle.std.proofs.Common.{◌<◌, ap, length, map, ◌∙◌, arith}
+use Rattle.std.proofs.Common.{◌<◌, ap, length, map, ◌∙◌, arith, Option}
 use Rattle.std.proofs.lemmas.List.{take_all}
 use Rattle.std.proofs.lemmas.Slice.Zip.{AllZip-long}
 use Rattle.pl_scope.specs.Scope.{objects}
 use Rattle.pl_conflict.specs.Own.{own_word}
 use Rattle.pl_conflict.proofs.OwnLaws.{sought_at, words_more}
+use Rattle.pl_object.specs.declared.reloc.Reloc.{Reloc}
+use Rattle.pl_scope.specs.declared.found.Found.{Found}
+use Rattle.pl_value.specs.Definers.{IsSought}
+use Rattle.pl_value.specs.Values.{reference}
 use Rattle.pl_conflict.proofs.own.words_by.Goals as goal
 
 pub loop-index-init : goal.loop-index-init
@@ -20,7 +24,7 @@ own_word_by-requires-clause-found c =
     sought_at (objects c.args.scope.now) c.args.relocs.now c.args.found.now c.loop-index.index _ _ c.requires.found lt
 
 pub bounds-found-index : goal.bounds-found-index
-bounds-found-index c = omega (arith, AllZip-long _ c.args.relocs.now c.args.found.now c.requires.found)
+bounds-found-index c = omega (arith, AllZip-long (λ (r : Reloc) (x : Option Found). IsSought (objects c.args.scope.now) (reference 0 r) x) c.args.relocs.now c.args.found.now c.requires.found)
 
 pub loop-index-preserved : goal.loop-index-preserved
 loop-index-preserved c =

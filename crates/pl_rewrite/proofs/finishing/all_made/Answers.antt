@@ -1,4 +1,4 @@
-use Rattle.std.proofs.Common.{◌≡◌, ◌+◌, length, sym, ap, subst, ◌∙◌, arith}
+use Rattle.std.proofs.Common.{◌≡◌, ◌+◌, [], false, length, sym, ap, subst, ◌∙◌, arith}
 use Rattle.std.specs.Vec.Iter.{into_iter_items, into_iter_len}
 use Rattle.std.proofs.lemmas.Iterator.Adapters.{YieldsList-from_vec}
 use Rattle.std.proofs.lemmas.Iterator.Consumers.{YieldsList-end, YieldsList-turn}
@@ -50,7 +50,8 @@ loop-taken-preserved c =
           let o = w.in-Some-next.outcome in
           let n = next_is MayBe ts os i t o rest c.requires.may turn.0 turn.1 (sym c.loop-taken.invariant.1 ∙ w.in-Some-next.ensures.cases.0) in
           let count : into_iter_len c.next-in-loop-taken.new.self + (i + 1) ≡ length os = omega (arith, w.in-Some-next.ensures.cases.1, c.loop-taken.invariant.2) in
-          let next = made_next _ ts os i t o turn.0 (AllZip-long MayBe ts os c.requires.may) turn.1 n.that in
+          let none : MadeFiles = record { rows = []; states = []; given = false } in
+          let next = made_next none ts os i t o turn.0 (AllZip-long MayBe ts os c.requires.may) turn.1 n.that in
           rw (length_push c.loop-taken.yielded t) (
             w.all-is
                 ∙ (w.in_ok-all.ensures ∙ (ap (λ (m : Made). with_made c.loop-taken.all t.name m) w.in_ok-made.ensures ∙ (ap (λ (x : MadeFiles). with_made x t.name (made_by t o)) c.loop-taken.invariant.0 ∙ sym next))),

@@ -1,4 +1,4 @@
-use Rattle.std.proofs.Common.{◌<◌, ap, length, arith}
+use Rattle.std.proofs.Common.{◌<◌, ap, length, arith, Option}
 use Rattle.std.proofs.lemmas.Result.{err_from_is_err_and}
 use Rattle.std.proofs.lemmas.Slice.Zip.{AllZip-long}
 use Rattle.pl_base.specs.Answers.{because}
@@ -9,6 +9,10 @@ use Rattle.pl_value.specs.Meanings.{meaning}
 use Rattle.pl_value.specs.declared.fault.OrdinaryFault.TheVariants.{Link}
 use Rattle.pl_value.proofs.CollectingLaws.{reloc_more, reloc_stops, relocs_done}
 use Rattle.pl_rewrite.specs.RemainingRows.{given_in}
+use Rattle.pl_object.specs.declared.reloc.Reloc.{Reloc}
+use Rattle.pl_scope.specs.declared.found.Found.{Found}
+use Rattle.pl_value.specs.Definers.{IsSought}
+use Rattle.pl_value.specs.Values.{reference}
 use Rattle.pl_rewrite.proofs.given.given_by.Goals as goal
 
 pub loop-index-init : goal.loop-index-init
@@ -25,7 +29,7 @@ meaning_with-requires-clause-found c =
     sought_at (objects_of c.args.linking.now) c.args.relocs.now c.args.found.now c.loop-index.index _ _ c.requires.found lt
 
 pub bounds-found-index : goal.bounds-found-index
-bounds-found-index c = omega (arith, AllZip-long _ c.args.relocs.now c.args.found.now c.requires.found)
+bounds-found-index c = omega (arith, AllZip-long (λ (r : Reloc) (x : Option Found). IsSought (objects_of c.args.linking.now) (reference 0 r) x) c.args.relocs.now c.args.found.now c.requires.found)
 
 pub returns-in_err-meaning : goal.returns-in_err-meaning
 returns-in_err-meaning c =
