@@ -178,6 +178,14 @@ fn add_row(rows: &mut Rows<Change>, row: Option<Change>) -> Result<(), AllocErro
     }
 }
 
+/// The name of a file that is let go.
+fn name_of(taken: Taken) -> Text
+    ensures { result ≡ taken.name }
+{
+    let Taken { name, .. } = taken;
+    name
+}
+
 /// Adds what a run makes of the file of a name.
 fn add_made(all: MadeFiles, name: Text, made: Made) -> Result<MadeFiles, AllocError>
     ensures { IfOk result (λ more. more ≡ told.with_made all name made) }
@@ -219,7 +227,7 @@ fn all_made(
     for taken in items {
         if let Some(outcome) = outcomes.next() {
             let made = made_last(alloc, &taken, outcome)?;
-            let Taken { name, .. } = taken;
+            let name = name_of(taken);
             all = add_made(all, name, made)?;
         }
     }

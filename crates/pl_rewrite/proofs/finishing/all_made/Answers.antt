@@ -1,4 +1,4 @@
-use Rattle.std.proofs.Common.{◌≡◌, ◌+◌, [], false, length, sym, ap, subst, ◌∙◌, arith}
+use Rattle.std.proofs.Common.{◌≡◌, ◌+◌, ℕ, List, [], false, length, sym, ap, subst, ◌∙◌, arith}
 use Rattle.std.specs.Vec.Iter.{into_iter_items, into_iter_len}
 use Rattle.std.proofs.lemmas.Iterator.Adapters.{YieldsList-from_vec}
 use Rattle.std.proofs.lemmas.Iterator.Consumers.{YieldsList-end, YieldsList-turn}
@@ -54,7 +54,8 @@ loop-taken-preserved c =
           let next = made_next none ts os i t o turn.0 (AllZip-long MayBe ts os c.requires.may) turn.1 n.that in
           rw (length_push c.loop-taken.yielded t) (
             w.all-is
-                ∙ (w.in_ok-all.ensures ∙ (ap (λ (m : Made). with_made c.loop-taken.all t.name m) w.in_ok-made.ensures ∙ (ap (λ (x : MadeFiles). with_made x t.name (made_by t o)) c.loop-taken.invariant.0 ∙ sym next))),
+                ∙ (w.in_ok-all.ensures ∙ ap (λ (k : List ℕ). with_made c.loop-taken.all k w.in_ok-made.made) w.name_of-name.ensures
+                ∙ (ap (λ (m : Made). with_made c.loop-taken.all t.name m) w.in_ok-made.ensures ∙ (ap (λ (x : MadeFiles). with_made x t.name (made_by t o)) c.loop-taken.invariant.0 ∙ sym next))),
             more_left os rest i n.left,
             count,
           )
