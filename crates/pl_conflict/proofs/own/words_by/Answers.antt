@@ -31,4 +31,4 @@ loop-index-preserved c =
     words_more (own_word (objects c.args.scope.now) c.args.places.now) c.args.relocs.now c.loop-index.index _ c.loop-index.words _ _ (omega arith) c.own_word_by.ensures c.in_ok-push.ensures.ok c.loop-index.invariant
 
 pub returns : goal.returns
-returns c = c.loop-index.invariant ∙ ap (map (own_word (objects c.args.scope.now) c.args.places.now)) (take_all _ c.args.relocs.now (omega arith))
+returns c = c.loop-index.invariant ∙ ap (map (own_word (objects c.args.scope.now) c.args.places.now)) (take_all c.loop-index.index c.args.relocs.now (omega arith))
