@@ -1,10 +1,18 @@
 use Rattle.std.proofs.Common.{◌<◌, ◌^◌, List, ℕ, Ok, length, sym, ap, subst, ◌∙◌}
+use Rattle.pl_base.specs.Answers.{Answers}
+use Rattle.pl_loader.specs.Faults.{is_memory}
 use Rattle.pl_loader.specs.Loading.{IsRead}
 use Rattle.pl_loader.specs.Given.{IsReadPlain}
 use Rattle.pl_loader.specs.Walk.{named}
 use Rattle.pl_loader.specs.declared.object_file.ObjectFile.{ObjectFile}
 use Rattle.pl_loader.proofs.GivenFileLaws.{named_plain, read_plain}
 use Rattle.pl_loader.proofs.walk_files.named.Goals as goal
+
+pub read_named-requires : goal.read_named-requires
+read_named-requires c = subst (λ (xs : List ℕ). length xs < 2 ^ 32) (sym c.into_parts-parts.ensures.bytes) c.requires
+
+pub returns-in-None-clause-exact : goal.returns-in-None-clause-exact
+returns-in-None-clause-exact c = subst (λ (xs : List ℕ). Answers is_memory c.read_named.result (named c.args.name xs)) c.into_parts-parts.ensures.bytes c.read_named.ensures.exact
 
 pub returns-in-Some-clause-exact : goal.returns-in-Some-clause-exact
 returns-in-Some-clause-exact c =
