@@ -14,8 +14,7 @@ bounds-relocs-one c = told_below c.args.linking.now c.args.member c.args.relocs.
 
 pub meaning_of-requires-clause-reference : goal.meaning_of-requires-clause-reference
 meaning_of-requires-clause-reference c =
-    let lt = told_below c.args.linking.now c.args.member c.args.relocs.now c.args.held.now c.loop-one.one-index _ c.args.rows.now.items c.loop-one.rows.items c.loop-one-test.true c.loop-one.invariant in
-    c.requires.references _ _ lt
+    c.requires.references _ _ (told_below c.args.linking.now c.args.member c.args.relocs.now c.args.held.now c.loop-one.one-index _ c.args.rows.now.items c.loop-one.rows.items c.loop-one-test.true c.loop-one.invariant)
 
 pub returns-in_err-meaning-clause-refused : goal.returns-in_err-meaning-clause-refused
 returns-in_err-meaning-clause-refused c =

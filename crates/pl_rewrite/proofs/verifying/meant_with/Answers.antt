@@ -31,8 +31,8 @@ pub meant_by-requires-clause-stale : goal.meant_by-requires-clause-stale
 meant_by-requires-clause-stale c =
     let n = c.args.numbered.now in
     let walk = c.requires.walk (omega (arith, c.in-len1-up.len_at_least, ap length c.walk-walk.ensures)) in
-    let first = first_row n c.args.row c.walk-walk.result.now _ walk c.walk-walk.ensures in
-    let made : AreFlagsOf (length n.files.now) (c.args.row ∷ []) c.in_ok-flags.flags.items = subst (λ (k : ℕ). AreFlagsOf (length n.files.now) (k ∷ []) c.in_ok-flags.flags.items) first c.in_ok-flags.ensures in
+    let made : AreFlagsOf (length n.files.now) (c.args.row ∷ []) c.in_ok-flags.flags.items =
+    subst (λ (k : ℕ). AreFlagsOf (length n.files.now) (k ∷ []) c.in_ok-flags.flags.items) (first_row n c.args.row c.walk-walk.result.now _ walk c.walk-walk.ensures) c.in_ok-flags.ensures in
     subst (AreFlagsOf (length n.files.now) (c.args.row ∷ [])) (sym c.as_slice-stale.ensures.value) made
 
 pub returns : goal.returns
