@@ -21,7 +21,6 @@ pub mod RowLaws
 pub mod RuleLaws
 pub mod OneSymbolLaws
 pub mod SingleLaws
-pub mod SkipLaws
 pub mod StandLaws
 pub mod StepLaws
 pub mod TakenLaws

@@ -31,7 +31,3 @@ between_grown P count from (n ∷ ns) here all = (all.0, (all.1.0, (omega (arith
 pub between_pushed : (P : ℕ → Type 0) (count from : ℕ) (ns : List ℕ) → from ≤ count → HoldsBetween P count from ns → HoldsBetween P (count + 1) from (ns ++ count ∷ [])
 between_pushed P count from [] le all = (all, (le, (omega arith, λ i low high. absurd (omega (arith, low, high)))))
 between_pushed P count from (n ∷ ns) le all = (all.0, (all.1.0, (omega (arith, all.1.1.0), between_pushed P count (n + 1) ns (omega (arith, all.1.1.0)) all.1.1.1)))
-
--- none is there at the beginning
-pub between_none : (P : ℕ → Type 0) → HoldsBetween P 0 0 []
-between_none P i low high = absurd (omega (arith, high))

@@ -1,14 +1,11 @@
 -- A file that is read as it stands.
-use Rattle.std.proofs.Common.{◌≡◌, ℕ, false, List, Option, Some, None, Ok, refl, ap}
+use Rattle.std.proofs.Common.{◌≡◌, ℕ, false, List, None, Ok, refl}
 use Rattle.std.specs.Prelude.{◌<◌, ◌^◌, length}
 use Rattle.pl_form.specs.Files.{file_in, marked_in}
 use Rattle.pl_form.specs.Marks.{has_mark}
-use Rattle.pl_form.specs.declared.file.File.{File}
 use Rattle.pl_form.specs.declared.file.File.TheVariants.{Plain}
-use Rattle.pl_base.specs.Answers.{◌>>=◌, because}
 use Rattle.pl_object.specs.Reads.{reads}
 use Rattle.pl_object.specs.declared.object.Object.{Object}
-use Rattle.pl_loader.specs.Faults.{of_file}
 use Rattle.pl_loader.specs.Given.{IsReadPlain}
 use Rattle.pl_loader.specs.Loading.{IsRead}
 use Rattle.pl_loader.specs.Walk.{named, with_mark}

@@ -1,4 +1,4 @@
-use Rattle.std.proofs.Common.{◌≡◌, ℕ, List, refl, ap, subst, ◌∙◌}
+use Rattle.std.proofs.Common.{◌≡◌, ℕ, List, ap, subst, ◌∙◌}
 use Rattle.std.proofs.lemmas.Result.{err_from_is_err_and, on_ok_weaker, IfErr-weaker}
 use Rattle.pl_loader.specs.Loading.{Loading, IsLoadable}
 use Rattle.pl_loader.proofs.GiveLaws.{give_lacks, give_refused, give_entered, give_stopped}
