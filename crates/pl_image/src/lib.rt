@@ -23,3 +23,4 @@ pub use parts::Parts;
 pub use patch::Patch;
 pub use patched::{Patched, read_loaded};
 pub use piece::Piece;
+pub use ranges::{apart, near};

@@ -13,6 +13,7 @@ pub mod VerifyLaws
 pub mod WholeLaws
 pub mod RowsLaws
 pub mod NearLaws
+pub mod RangeLaws
 pub mod CopyLaws
 pub mod QuietLaws
 pub mod SourceLaws

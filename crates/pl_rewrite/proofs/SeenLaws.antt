@@ -23,7 +23,10 @@ below_min a b c one two = omega (arith, one, two)
 touched : (from n start a : ℕ) → from ≤ a → a < from + n → a < 2 ^ 64 - 1 → start ≤ a → a < start + 8 → touches start (record { start = from; end = min (from + n) (2 ^ 64 - 1) }) ≡ true
 touched from n start a low high last first past =
     let end : a < min (from + n) (2 ^ 64 - 1) = below_min a (from + n) (2 ^ 64 - 1) high last in
-    and_from (nat_lt start (min (from + n) (2 ^ 64 - 1))) (nat_lt from (start + 8)) (lt-ltb start (min (from + n) (2 ^ 64 - 1)) (omega (arith, first, end))) (lt-ltb from (start + 8) (omega (arith, low, past)))
+    let some : nat_lt from (min (from + n) (2 ^ 64 - 1)) ≡ true = lt-ltb from (min (from + n) (2 ^ 64 - 1)) (omega (arith, low, end)) in
+    let ends : nat_lt start (min (from + n) (2 ^ 64 - 1)) ≡ true = lt-ltb start (min (from + n) (2 ^ 64 - 1)) (omega (arith, first, end)) in
+    and_from (nat_lt from (min (from + n) (2 ^ 64 - 1)) && nat_lt start (min (from + n) (2 ^ 64 - 1))) (nat_lt from (start + 8)) (and_from (nat_lt from (min (from + n) (2 ^ 64 - 1))) (nat_lt start (min (from + n) (2 ^ 64 - 1))) some ends)
+    (lt-ltb from (start + 8) (omega (arith, low, past)))
 
 any_first : (start : ℕ) (r : Range) (rs : List Range) → touches start r ≡ true → list_any (touches start) (cons_option (Some r) rs) ≡ true
 any_first start r rs hit = or_left (touches start r) (list_any (touches start) rs) hit

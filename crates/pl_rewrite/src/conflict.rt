@@ -14,10 +14,9 @@ ghost use Rattle.pl_value.specs.Values.{reference};
 ghost use Rattle.pl_rewrite.specs.RemainingRows as spec;
 
 use crate::held::HeldWord;
-use crate::ranges::{is_near, ranges_of};
+use crate::ranges::Ranges;
 use crate::row_words::RowWords;
 use pl_cone::{WalkLinking, sought};
-use pl_elf::Range;
 use pl_lists::ConflictRow;
 use pl_object::Reloc;
 use pl_scope::Found;
@@ -139,10 +138,10 @@ fn add_rows(
 }
 
 /// Whether a word is given at a place near ranges.
-fn is_near_word(ranges: &[Range], meaning: &Meaning) -> bool
+fn is_near_word(ranges: &Ranges, meaning: &Meaning) -> bool
     ensures { result ≡ spec.is_near_word ranges.now meaning.now }
 {
-    matches!(meaning.word, Word::Put(_)) && is_near(ranges, meaning.start)
+    matches!(meaning.word, Word::Put(_)) && ranges.is_near(meaning.start)
 }
 
 /// Adds the words that a member's relocations give in the ranges from which the program copies. All have values.
@@ -150,7 +149,7 @@ fn add_near(
     linking: &WalkLinking<'_, '_>,
     member: u32,
     relocs: &[Reloc],
-    ranges: &[Range],
+    ranges: &Ranges,
     near: &mut Vec<Meaning>,
 ) -> Result<(), OrdinaryFault>
     requires linking { IsLinking linking.now }
@@ -162,7 +161,7 @@ fn add_near(
     ensures refused { IfErr result (λ fault. is_memory fault ≡ true) }
 {
     for reloc in relocs {
-        if is_near(ranges, start_of(linking.places, member, reloc)) {
+        if ranges.is_near(start_of(linking.places, member, reloc)) {
             let meaning = meaning_of(linking, member, reloc)?;
             if is_near_word(ranges, &meaning) {
                 near.push(meaning)?;
@@ -177,7 +176,7 @@ fn add_member(
     linking: &WalkLinking<'_, '_>,
     member: u32,
     held: &[HeldWord],
-    ranges: &[Range],
+    ranges: &Ranges,
     found_rows: &mut RemainingRows,
 ) -> Result<(), OrdinaryFault>
     requires linking { IsLinking linking.now }
@@ -206,7 +205,7 @@ fn sort_rows(rows: &mut Vec<ConflictRow>)
 }
 
 /// The words of the program itself that are given in the ranges from which it copies.
-fn own_near(alloc: Global, own: &[Meaning], ranges: &[Range]) -> Result<Vec<Meaning>, AllocError>
+fn own_near(alloc: Global, own: &[Meaning], ranges: &Ranges) -> Result<Vec<Meaning>, AllocError>
     ensures { IfOk result (λ v. v.items ≡ filter (spec.is_near_word ranges.now) own.now) }
 {
     own.iter()
@@ -232,7 +231,7 @@ pub fn remaining_rows(
     ensures near { IfOk result (λ o. spec.AreNear linking.now own.now o.near.items) }
     ensures refused { IfErr result (spec.RefusesAll linking.now) }
 {
-    let ranges = ranges_of(alloc, own)?;
+    let ranges = Ranges::of(alloc, own)?;
     let mut found_rows = RemainingRows {
         rows: Vec::new(alloc),
         near: own_near(alloc, own, &ranges)?,

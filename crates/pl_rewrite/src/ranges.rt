@@ -1,10 +1,12 @@
 // The addresses from which the relocations of a program copy.
-ghost use Rattle.std.specs.Prelude.{◌≡◌, IfOk};
+ghost use Rattle.std.specs.Prelude.{◌≡◌, ◌==◌, IfOk, length};
 ghost use Rattle.pl_rewrite.specs.Ranges as spec;
 
 use pl_elf::Range;
+use pl_image::{apart, near};
 use pl_value::{Meaning, Word};
 use std::alloc::{AllocError, Global};
+use std::marker::Model;
 
 /// The addresses from which a relocation copies, if it does.
 fn range_of(word: &Word) -> Option<Range>
@@ -21,7 +23,7 @@ fn range_of(word: &Word) -> Option<Range>
 
 /// The addresses from which relocations copy, a range for each that does, in their order.
 #[tactic(auto, unfolding(crate::specs::Ranges::ranges_of))]
-pub fn ranges_of(alloc: Global, meanings: &[Meaning]) -> Result<Vec<Range>, AllocError>
+fn given_ranges(alloc: Global, meanings: &[Meaning]) -> Result<Vec<Range>, AllocError>
     ensures { IfOk result (λ v. v.items ≡ spec.ranges_of meanings.now) }
 {
     meanings
@@ -30,16 +32,74 @@ pub fn ranges_of(alloc: Global, meanings: &[Meaning]) -> Result<Vec<Range>, Allo
         .collect(alloc)
 }
 
+/// Ranges that ascend and do not overlap, with the addresses of these.
+fn rising_ranges(alloc: Global, ranges: &[Range]) -> Result<Vec<Range>, AllocError>
+    ensures { IfOk result (λ v. spec.AreRising ranges.now v.items) }
+{
+    let copy = Vec::from_slice(alloc, ranges)?;
+    let rising = apart(alloc, copy)?;
+    Ok(rising)
+}
+
 /// Whether a word from an address on has an address of a range.
 fn touches(range: &Range, start: u64) -> bool
     ensures { result ≡ spec.touches start range.now }
 {
-    start < range.end && u128::from(range.start) < u128::from(start) + 8
+    range.start < range.end
+        && start < range.end
+        && u128::from(range.start) < u128::from(start) + 8
 }
 
-/// Whether a word from an address on has an address of one of the ranges.
-pub fn is_near(ranges: &[Range], start: u64) -> bool
+/// Whether a word from an address on has an address of one of the ranges. The time grows as their number.
+fn touches_one(ranges: &[Range], start: u64) -> bool
     ensures { result ≡ spec.is_near ranges.now start }
 {
     ranges.iter().any(|range| touches(range, start))
+}
+
+/// The addresses from which relocations copy. Contracts see them as a range for each relocation that does, in their order.
+#[derive(Drop)]
+pub struct Ranges {
+    given: Vec<Range>,
+
+    /// Ranges that ascend and do not overlap, with the same addresses.
+    rising: Vec<Range>,
+}
+
+impl Model for Ranges {
+    ghost use Rattle.std.specs.Prelude.{List};
+    ghost use Rattle.pl_elf.specs.declared.range.Range.{Range};
+    ghost use Rattle.pl_rewrite.specs.Ranges.{AreRising};
+
+    ghost Value = { List Range };
+
+    ghost view = { λ r. r.given.items };
+
+    ghost invariant = { λ r. AreRising r.given.items r.rising.items };
+}
+
+impl Ranges {
+    /// The addresses from which these relocations copy. The time grows as `n log n`.
+    pub fn of(alloc: Global, meanings: &[Meaning]) -> Result<Ranges, AllocError>
+        ensures { IfOk result (λ r. r ≡ spec.ranges_of meanings.now) }
+    {
+        let given = given_ranges(alloc, meanings)?;
+        let rising = rising_ranges(alloc, &given)?;
+        Ok(Ranges { given, rising })
+    }
+
+    /// Whether no relocation copies.
+    pub fn is_empty(&self) -> bool
+        ensures { result ≡ (length self.now == 0) }
+    {
+        self.given.is_empty()
+    }
+
+    /// Whether a word from an address on has an address of one of the ranges. The time grows as the logarithm of their number.
+    pub fn is_near(&self, start: u64) -> bool
+        ensures { result ≡ spec.is_near self.now start }
+    {
+        let near = near(&self.rising, start, 8);
+        touches_one(near, start)
+    }
 }

@@ -20,7 +20,7 @@ use Rattle.pl_rewrite.proofs.conflict.remaining_rows.Goals as goal
 pub loop-member-init : goal.loop-member-init
 loop-member-init c =
     first_listed c.args.linking.now c.args.walk.now c.args.row_words.now c.args.own.now (ranges_of c.args.own.now) c.new.result.items c.in_ok-own_near.field-0.items c.requires.row_words c.new.ensures.items
-    (c.in_ok-own_near.ensures ∙ ap (λ (rs : List Range). filter (is_near_word rs) c.args.own.now) (c.deref.ensures.value ∙ c.in_ok-ranges.ensures))
+    (c.in_ok-own_near.ensures ∙ ap (λ (rs : List Range). filter (is_near_word rs) c.args.own.now) c.in_ok-ranges.ensures)
 
 pub bounds-walk-member : goal.bounds-walk-member
 bounds-walk-member c = omega (arith, c.loop-member-test.true, c.count-member-end.ensures.count, length_objects c.args.linking.now.scope.now, c.requires.row_words.one_each)
@@ -45,7 +45,7 @@ loop-member-preserved c =
     let told = told_is c.args.walk.now c.args.row_words.now c.loop-member.member (get_or c.args.walk.now c.loop-member.member 0) c.index-row_words-row.result refl (c.requires.row_words.within c.loop-member.member 0 (omega (arith, c.loop-member-test.true, c.count-member-end.ensures.count, length_objects c.args.linking.now.scope.now, c.requires.row_words.one_each))) c.index-row_words-row.is ∙ ap (λ (s : RowWords). s.held) c.index-row_words-row.is ∙ sym c.as_slice-held.ensures in
     let adds = c.in_ok-add_member.ensures.added in
     let rows = subst (λ (hs : List HeldWord). AddsRows c.args.linking.now c.loop-member.member o.0.relocations hs c.loop-member.found_rows.rows.items c.add_member.new.found_rows.rows.items) (sym told) (adds.rows o.0 o.1) in
-    let near = subst (λ (rs : List Range). AddsNear c.args.linking.now c.loop-member.member o.0.relocations rs c.loop-member.found_rows.near.items c.add_member.new.found_rows.near.items) (c.deref-in-loop-member.ensures.value ∙ c.in_ok-ranges.ensures) (adds.near o.0 o.1) in
+    let near = subst (λ (rs : List Range). AddsNear c.args.linking.now c.loop-member.member o.0.relocations rs c.loop-member.found_rows.near.items c.add_member.new.found_rows.near.items) c.in_ok-ranges.ensures (adds.near o.0 o.1) in
     listed_more c.args.linking.now c.args.walk.now c.args.row_words.now (ranges_of c.args.own.now) c.loop-member.member o.0 _ _ _ _ (omega (arith, c.loop-member.auto.member)) o.1 rows near c.loop-member.invariant
 
 pub returns-clause-rows : goal.returns-clause-rows
