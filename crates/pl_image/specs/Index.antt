@@ -80,11 +80,6 @@ AreLaid lay from before after = (length after ≡ length before) × ((k : ℕ) �
 abbrev pub laid_in : Fill → ℕ → ℕ → ℕ → ℕ
 laid_in fill number address found = if number == address / 8 then laid address found fill else found
 
--- objects and patches over what they load, with the words that the patches touch
-pub record IsPatched (objects : List LoadedObject) (patches : List Fill) (touched : List Touch) : Type 0 where
-  pub loaded : AreLoaded objects
-  pub index : IsIndex patches touched
-
 -- ---- masked addresses
 
 -- each range begins at or after the end of the one before

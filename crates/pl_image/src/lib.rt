@@ -21,6 +21,6 @@ pub use loading::{load_mask, load_object, load_pieces};
 pub use mask::{Load, Mask};
 pub use parts::Parts;
 pub use patch::Patch;
-pub use patched::{Patched, read_loaded};
+pub use patched::{Patched, Patches, read_loaded};
 pub use piece::Piece;
 pub use ranges::{apart, near};

@@ -12,27 +12,85 @@ use crate::{LoadedObject, Patch};
 use std::alloc::{AllocError, Global};
 use std::marker::Model;
 
-/// What objects load, in scope order, and patches over it, one after the other; a later patch wins. Nothing is masked. A place is read without a look at patches that touch none of its words.
+/// Patches, one after the other, of which a later one wins; memory under them is read without a look at those that touch none of the words that are read.
+///
+/// Contracts see them as the patches.
+#[derive(Drop)]
+pub struct Patches {
+    patches: Vec<Patch>,
+
+    /// The words that they touch.
+    touched: Vec<Touch>,
+}
+
+impl Model for Patches {
+    ghost use Rattle.std.specs.Prelude.{List};
+    ghost use Rattle.pl_base.specs.Memory.{Fill};
+    ghost use Rattle.pl_image.specs.Index.{IsIndex};
+
+    ghost Value = { List Fill };
+
+    ghost view = { λ p. p.patches.items };
+
+    ghost invariant = { λ p. IsIndex p.patches.items p.touched.items };
+}
+
+impl Patches {
+    /// These patches. It fails only for want of memory. The time grows as `n log n`.
+    pub fn new(alloc: Global, patches: Vec<Patch>) -> Result<Patches, AllocError>
+        ensures { IfOk result (λ p. p ≡ patches.items) }
+    {
+        let touched = index_patches(alloc, &patches)?;
+        Ok(Patches { patches, touched })
+    }
+
+    /// The bytes from an address on of what objects load, with the patches over it; 0 where there is none. The time grows as the number of the bytes times that of the objects, and as the number of patches that touch their words.
+    pub fn read(
+        &self,
+        alloc: Global,
+        objects: &[LoadedObject<'_>],
+        from: u64,
+        size: u64,
+    ) -> Result<Vec<u8>, AllocError>
+        requires { spec.AreLoaded objects.now }
+        ensures { IfOk result (λ v. v.items ≡ memory.read
+            (memory.filled (memory.layered (spec.all_pieces objects.now)) self.now) from size) }
+    {
+        let mut bytes = read_loaded(alloc, objects, from, size)?;
+        let near = near(&self.patches, &self.touched, from, size);
+        lay_all(&self.patches, near, from, &mut bytes);
+        Ok(bytes)
+    }
+
+    /// The patches alone. It takes no memory.
+    pub fn into_patches(self) -> Vec<Patch>
+        ensures { result.items ≡ self.entry }
+    {
+        let Patches {
+            patches,
+            touched: _,
+        } = self;
+        patches
+    }
+}
+
+/// What objects load, in scope order, and patches over it, one after the other; a later patch wins. Nothing is masked.
 ///
 /// Contracts see it as the objects and the patches.
 #[derive(Drop)]
 pub struct Patched<'l, 'a> {
     objects: &'l [LoadedObject<'a>],
-    patches: Vec<Patch>,
-
-    /// The words that patches touch.
-    touched: Vec<Touch>,
+    patches: Patches,
 }
 
 impl<'l, 'a> Model for Patched<'l, 'a> {
     ghost use Rattle.pl_image.specs.Image as words;
-    ghost use Rattle.pl_image.specs.Index.{IsPatched};
 
     ghost Value = { words.Image };
 
-    ghost view = { λ p. record { objects = p.objects.now; patches = p.patches.items } };
+    ghost view = { λ p. record { objects = p.objects.now; patches = p.patches } };
 
-    ghost invariant = { λ p. IsPatched p.objects.now p.patches.items p.touched.items };
+    ghost invariant = { λ p. words.AreLoaded p.objects.now };
 }
 
 impl<'l, 'a> Patched<'l, 'a> {
@@ -46,22 +104,18 @@ impl<'l, 'a> Patched<'l, 'a> {
         ensures { IfOk result (λ p. p ≡ record
             { objects = objects.now; patches = patches.items }) }
     {
-        let touched = index_patches(alloc, &patches)?;
+        let indexed = Patches::new(alloc, patches)?;
         Ok(Patched {
             objects,
-            patches,
-            touched,
+            patches: indexed,
         })
     }
 
-    /// The bytes from an address on, 0 where there is none. The time grows as the number of the bytes times that of the objects, and as the number of patches that touch their words.
+    /// The bytes from an address on, 0 where there is none. It takes as long as `read` of the patches.
     pub fn read(&self, alloc: Global, from: u64, size: u64) -> Result<Vec<u8>, AllocError>
         ensures { IfOk result (λ v. v.items ≡ memory.read (spec.patched self.now) from size) }
     {
-        let mut bytes = read_loaded(alloc, self.objects, from, size)?;
-        let near = near(&self.patches, &self.touched, from, size);
-        lay_all(&self.patches, near, from, &mut bytes);
-        Ok(bytes)
+        self.patches.read(alloc, self.objects, from, size)
     }
 
     /// The patches alone. It takes no memory.
@@ -71,9 +125,8 @@ impl<'l, 'a> Patched<'l, 'a> {
         let Patched {
             objects: _,
             patches,
-            touched: _,
         } = self;
-        patches
+        patches.into_patches()
     }
 }
 

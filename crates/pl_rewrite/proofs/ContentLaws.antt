@@ -151,11 +151,11 @@ all_filled f rs gs own modules p first others made s zip =
     fills_same f (memory_of rs gs) relocs own made each_one zip
 
 -- what is copied is of members of the walk
-pub own_fills : (f : Filling) (os : List Object) (places : List ℕ) (modules : List Module) (rs : List Reloc) (own : List Meaning) → length os ≡ length f.walk.now → each (meaning os places modules) (map (row 0) rs) ≡ Ok own → AreFillsOf f own
-own_fills f os places modules rs own same is = λ k e lt.
+pub own_fills : (walk : List ℕ) (os : List Object) (places : List ℕ) (modules : List Module) (rs : List Reloc) (own : List Meaning) → length os ≡ length walk → each (meaning os places modules) (map (row 0) rs) ≡ Ok own → AreFillsOf walk own
+own_fills walk os places modules rs own same is = λ k e lt.
     let count = own_count os places modules rs own is in
     let d : Reloc = some_reloc rs (omega (arith, lt, count)) in
-    fill_of f os places modules (get_or rs k d) (get_or own k e) same (own_at os places modules rs own k d e is (omega (arith, lt, count)))
+    fill_of walk os places modules (get_or rs k d) (get_or own k e) same (own_at os places modules rs own k d e is (omega (arith, lt, count)))
   where
     some_reloc : (rs : List Reloc) → 0 < length rs → Reloc
     some_reloc [] some = absurd (omega (arith, some))

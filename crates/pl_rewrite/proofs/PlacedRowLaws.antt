@@ -20,7 +20,6 @@ use Rattle.pl_value.proofs.MeaningLaws.{IsGiven, meaning_given}
 use Rattle.pl_rewrite.specs.Copies.{IsFillOf, IsPlacedRow}
 use Rattle.pl_rewrite.specs.Fills.{IsProgramSet}
 use Rattle.pl_rewrite.specs.Rows.{IsFirmAt, IsWalkRow, firms_of, walk_of}
-use Rattle.pl_rewrite.specs.declared.copies.Filling.{Filling}
 use Rattle.pl_rewrite.specs.declared.numbers.Numbered.{Numbered}
 use Rattle.pl_rewrite.proofs.FirmRowLaws.{firms_zip}
 use Rattle.pl_rewrite.proofs.ProgramLaws.{originals_placed}
@@ -50,14 +49,14 @@ within [] m o at = absurd (none-some o at)
 within (x ∷ os) zero o at = omega arith
 within (x ∷ os) (suc m) o at = omega (arith, within os m o at)
 
-fill_by : (f : Filling) (os : List Object) (places : List ℕ) (modules : List Module) (r : Reloc) (w : Word) → length os ≡ length f.walk.now → value_of os places modules 0 r ≡ Ok w → IsFillOf f w
-fill_by f os places modules r (Put x) same is = tt
-fill_by f os places modules r (Copy m from n) same is =
+fill_by : (walk : List ℕ) (os : List Object) (places : List ℕ) (modules : List Module) (r : Reloc) (w : Word) → length os ≡ length walk → value_of os places modules 0 r ≡ Ok w → IsFillOf walk w
+fill_by walk os places modules r (Put x) same is = tt
+fill_by walk os places modules r (Copy m from n) same is =
     let s = value_source os places modules 0 r m from n is in
     omega (arith, same, within os m s.object s.at)
-fill_by f os places modules r Nothing same is = tt
+fill_by walk os places modules r Nothing same is = tt
 
-pub fill_of : (f : Filling) (os : List Object) (places : List ℕ) (modules : List Module) (r : Reloc) (g : Meaning) → length os ≡ length f.walk.now → meaning os places modules (row 0 r) ≡ Ok g → IsFillOf f g.word
-fill_of f os places modules r g same is =
+pub fill_of : (walk : List ℕ) (os : List Object) (places : List ℕ) (modules : List Module) (r : Reloc) (g : Meaning) → length os ≡ length walk → meaning os places modules (row 0 r) ≡ Ok g → IsFillOf walk g.word
+fill_of walk os places modules r g same is =
     let given : IsGiven os places modules (row 0 r) g = meaning_given os places modules (row 0 r) g is in
-    fill_by f os places modules r g.word same given.word
+    fill_by walk os places modules r g.word same given.word

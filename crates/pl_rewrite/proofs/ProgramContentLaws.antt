@@ -36,11 +36,11 @@ use Rattle.pl_value.specs.declared.fault.OrdinaryFault.TheVariants.{Link}
 use Rattle.pl_value.specs.declared.meaning.Meaning.{Meaning}
 use Rattle.pl_value.proofs.ApartLaws.{places_are_apart}
 use Rattle.pl_rewrite.specs.Contents.{HasContents, IsLinkingOfRow, IsProgramRow, IsWork}
-use Rattle.pl_rewrite.specs.Copies.{AreFillsOf, AreProgramFills, IsFilling, IsPlacedRow}
+use Rattle.pl_rewrite.specs.Copies.{AreFillsOf, AreProgramFills, IsFillable}
 use Rattle.pl_rewrite.specs.Fills.{IsProgramSet, conflicts_with}
 use Rattle.pl_rewrite.specs.Ranges.{ranges_of}
 use Rattle.pl_rewrite.specs.RemainingRows.{AreConflictRows, AreNear, CanListRows, FindFirst, GivesFirst, RefusesAll, all_given, given_in, is_near_word}
-use Rattle.pl_rewrite.specs.Rows.{IsFirmAt, IsNumbered, firms_of, of_firm, walk_of}
+use Rattle.pl_rewrite.specs.Rows.{IsFirmAt, firms_of, of_firm, walk_of}
 use Rattle.pl_rewrite.specs.Sources.{AreSources, AreVersionsOf}
 use Rattle.pl_rewrite.specs.declared.copies.Filling.{Filling}
 use Rattle.pl_rewrite.specs.declared.numbers.Numbered.{Numbered}
@@ -127,17 +127,14 @@ module _ (w : Work) (row : ℕ) (l : WalkLinking) (work : IsWork w) (program : I
 
   -- ---- what is made
 
-  pub filling_is : (f : Filling) → f.numbered.now ≡ n → f.walk.now ≡ walk_of n row → IsFilling f
-  filling_is f same walk =
-      let within : All (λ k. k < length n.files.now) (walk_of n row) = program.walk.rows.within in
-      let some : 0 < length (walk_of n row) = omega (arith, ap length program.walk.is) in
-      let placed : All (IsPlacedRow n) (walk_of n row) = placed_rows n row program.walk whole_set in
-      record {
-        numbered = subst IsNumbered (sym same) work.numbered;
-        some = subst (λ (ks : List ℕ). 0 < length ks) (sym walk) some;
-        within = subst (λ (ks : List ℕ). All (λ k. k < length f.numbered.now.files.now) ks) (sym walk) (subst (λ (m : Numbered). All (λ k. k < length m.files.now) (walk_of n row)) (sym same) within);
-        placed = subst (λ (ks : List ℕ). All (IsPlacedRow f.numbered.now) ks) (sym walk) (subst (λ (m : Numbered). All (IsPlacedRow m) (walk_of n row)) (sym same) placed);
-      }
+  pub fillable_is : (m : Numbered) (walk : List ℕ) → m ≡ n → walk ≡ walk_of n row → IsFillable m walk
+  fillable_is m walk same is =
+      let here : IsFillable n (walk_of n row) = record {
+        some = omega (arith, ap length program.walk.is);
+        within = program.walk.rows.within;
+        placed = placed_rows n row program.walk whole_set;
+      } in
+      subst (λ (ks : List ℕ). IsFillable m ks) (sym is) (subst (λ (k : Numbered). IsFillable k (walk_of n row)) (sym same) here)
 
   first_there : slice_get (links.objects_of l) 0 ≡ Some first.firm.object
   first_there = ap (λ (os : List Object). slice_get os 0) held.objects ∙ ap (λ (ms : List Firm). slice_get (objects_of ms) 0) first.is
@@ -153,9 +150,9 @@ module _ (w : Work) (row : ℕ) (l : WalkLinking) (work : IsWork w) (program : I
   pub own_each : (own : List Meaning) (o : Object) → slice_get (links.objects_of l) 0 ≡ Some o → GivesFirst l (Ok own) → length own ≡ length o.relocations
   own_each own o at gives = own_count (links.objects_of l) l.places.now modules o.relocations own (own_given own gives o at)
 
-  pub own_members : (f : Filling) (own : List Meaning) (o : Object) → f.walk.now ≡ walk_of n row → slice_get (links.objects_of l) 0 ≡ Some o → GivesFirst l (Ok own) → AreFillsOf f own
-  own_members f own o walk at gives =
-      own_fills f (links.objects_of l) l.places.now modules o.relocations own (members_count ∙ ap length (sym walk)) (own_given own gives o at)
+  pub own_members : (walk : List ℕ) (own : List Meaning) (o : Object) → walk ≡ walk_of n row → slice_get (links.objects_of l) 0 ≡ Some o → GivesFirst l (Ok own) → AreFillsOf walk own
+  own_members walk own o is at gives =
+      own_fills walk (links.objects_of l) l.places.now modules o.relocations own (members_count ∙ ap length (sym is)) (own_given own gives o at)
 
   -- all relocations have values where there are conflict rows
   values_of : (ss : List Firm) (rows : List ConflictRow) → conflicts (objects_of ss) (parts_of ss) (slots_of ss) modules ≡ Ok rows → (gs : List Meaning) × (meanings (objects_of ss) (slots_of ss) modules ≡ Ok gs)
@@ -197,7 +194,7 @@ module _ (w : Work) (row : ℕ) (l : WalkLinking) (work : IsWork w) (program : I
       let read : AreRead (originals_of rs) (objects_of rs) = read_all rs own_all_members in
       let zip : AllZip (IsFirmAt n) (walk_of n row) rs = firms_zip n row program.walk.rows in
       record {
-        filling = filling_is f same walk;
+        fillable = fillable_is f.numbered.now f.walk.now same walk;
         rows = subst (λ (ks : List ℕ). AllZip (IsFirmAt f.numbered.now) ks rs) (sym walk) (subst (λ (m : Numbered). AllZip (IsFirmAt m) (walk_of n row) rs) (sym same) zip);
         near = patches ∙ ap words (nears gs (all_values gs is));
         fit = all_fit (objects_of rs) (originals_of rs) (slots_of rs) modules gs read scope_is is;

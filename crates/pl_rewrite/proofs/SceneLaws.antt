@@ -18,7 +18,7 @@ use Rattle.pl_value.specs.Targets.{base_of}
 use Rattle.pl_value.specs.declared.meaning.Meaning.{Meaning}
 use Rattle.pl_value.specs.declared.word.Word.{Word}
 use Rattle.pl_value.specs.declared.word.Word.TheVariants.{Put, Copy, Nothing}
-use Rattle.pl_rewrite.specs.Copies.{AreBytesOf, FillsBy, IsFilling, row_at}
+use Rattle.pl_rewrite.specs.Copies.{AreBytesOf, FillsBy, IsFillable, row_at}
 use Rattle.pl_rewrite.specs.Fills.{memory_of}
 use Rattle.pl_rewrite.specs.Rows.{IsFirmAt}
 use Rattle.pl_rewrite.specs.declared.copies.Filling.{Filling}
@@ -59,7 +59,7 @@ row_below (x ∷ rows) (suc m) row at = omega (arith, row_below rows m row at)
 -- ---- the walk of a program, and what its relocations give
 
 pub record IsScene (f : Filling) (rs : List Firm) (gs : List Meaning) (p : Meaning → Bool) : Type 0 where
-  pub filling : IsFilling f
+  pub fillable : IsFillable f.numbered.now f.walk.now
   pub rows : AllZip (IsFirmAt f.numbered.now) f.walk.now rs
   pub near : f.near.now ≡ words (filter p gs)
   pub fit : AllFit is_library gs
@@ -99,7 +99,7 @@ pub member_placed : (f : Filling) (rs : List Firm) (gs : List Meaning) (p : Mean
 member_placed f rs gs p m r scene at =
     let row = firm_index f.numbered.now f.walk.now rs m r scene.rows at in
     let here : IsFirmAt f.numbered.now (row_at f m) r = subst (λ (k : ℕ). IsFirmAt f.numbered.now k r) (row_is f.walk.now m row.0 row.1) row.2 in
-    subst (λ (k : ℕ). IsPlaced k r.object) (sym (member_at rs m r at).place) (scene.filling.placed m 0 (row_below f.walk.now m row.0 row.1) r here)
+    subst (λ (k : ℕ). IsPlaced k r.object) (sym (member_at rs m r at).place) (scene.fillable.placed m 0 (row_below f.walk.now m row.0 row.1) r here)
 
 -- ---- the bytes at a place
 

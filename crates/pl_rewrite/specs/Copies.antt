@@ -1,5 +1,5 @@
 -- The bytes at the places of a program: words, and what copies read.
-use Rattle.std.specs.Prelude.{◌≡◌, ◌<◌, ℕ, List, [], ◌∷◌, ◌++◌, if◌then◌else◌, take, drop, length, slice_index, Option, Some, None}
+use Rattle.std.specs.Prelude.{◌≡◌, ◌<◌, ℕ, List, [], ◌∷◌, ◌++◌, if◌then◌else◌, take, drop, length, slice_get, slice_index, Some}
 use Rattle.std.specs.List.{All, AllZip}
 use Rattle.pl_base.specs.Bytes.{bytes64}
 use Rattle.pl_base.specs.Memory.{Fill, filled, layered, read}
@@ -10,9 +10,10 @@ use Rattle.pl_image.specs.Image.{AreLoaded}
 use Rattle.pl_image.specs.Loads.{IsPlaced, loaded_at}
 use Rattle.pl_image.specs.declared.loaded_object.LoadedObject.{LoadedObject}
 use Rattle.pl_object.specs.declared.reloc.Reloc.{Reloc}
-use Rattle.pl_rewrite.specs.Rows.{IsFirmAt, IsNumbered}
+use Rattle.pl_rewrite.specs.Rows.{IsFirmAt}
 use Rattle.pl_rewrite.specs.declared.copies.Filling.{Filling}
 use Rattle.pl_rewrite.specs.declared.numbers.Numbered.{Numbered}
+use Rattle.pl_value.specs.Linked.{words}
 use Rattle.pl_value.specs.declared.meaning.Meaning.{Meaning}
 use Rattle.pl_value.specs.declared.word.Word.{Word}
 use Rattle.pl_value.specs.declared.word.Word.TheVariants.{Put, Copy, Nothing}
@@ -27,12 +28,21 @@ IsPlacedRow n row = (r : Firm) → IsFirmAt n row r → IsPlaced r.member.slot r
 abbrev pub loaded_for : Firm → LoadedObject
 loaded_for r = loaded_at r.member.slot r.member.original r.object
 
-abbrev pub IsLoadedAt : Numbered → ℕ → Option LoadedObject → Type 0
-IsLoadedAt n row loaded = (r : Firm) → IsFirmAt n row r → loaded ≡ Some (loaded_for r)
+abbrev pub IsLoadedAt : Numbered → ℕ → LoadedObject → Type 0
+IsLoadedAt n row loaded = (r : Firm) → IsFirmAt n row r → loaded ≡ loaded_for r
 
-abbrev pub AreLoadedIfAny : Option LoadedObject → Type 0
-AreLoadedIfAny None = Unit {0}
-AreLoadedIfAny (Some l) = AreLoaded (l ∷ [])
+pub record IsLoadedRow (n : Numbered) (row : ℕ) (loaded : LoadedObject) : Type 0 where
+  pub is : IsLoadedAt n row loaded
+  pub alone : AreLoaded (loaded ∷ [])
+
+-- those of the rows of a walk, one for each
+pub record AreLoadedAt (n : Numbered) (walk : List ℕ) (loaded : List LoadedObject) : Type 0 where
+  pub one_each : length loaded ≡ length walk
+  pub each : (m : ℕ) (l : LoadedObject) → slice_get loaded m ≡ Some l → IsLoadedRow n (slice_index walk m) l
+
+-- the list of the one of an index
+abbrev pub IsOneOf : List LoadedObject → ℕ → List LoadedObject → Type 0
+IsOneOf loaded m one = (l : LoadedObject) → slice_get loaded m ≡ Some l → one ≡ l ∷ []
 
 -- so many bytes of it, with patches over it
 abbrev pub AreBytesOf : Numbered → ℕ → List Fill → ℕ → ℕ → List ℕ → Type 0
@@ -47,19 +57,23 @@ abbrev pub row_at : Filling → ℕ → ℕ
 row_at f member = slice_index f.walk.now member
 
 -- the member from which is copied is one of the walk
-abbrev pub IsFillOf : Filling → Word → Type 0
-IsFillOf f (Put word) = Unit {0}
-IsFillOf f (Copy member from size) = member < length f.walk.now
-IsFillOf f Nothing = Unit {0}
+abbrev pub IsFillOf : List ℕ → Word → Type 0
+IsFillOf walk (Put word) = Unit {0}
+IsFillOf walk (Copy member from size) = member < length walk
+IsFillOf walk Nothing = Unit {0}
 
-abbrev pub AreFillsOf : Filling → List Meaning → Type 0
-AreFillsOf f gs = All (λ g. IsFillOf f g.word) gs
+abbrev pub AreFillsOf : List ℕ → List Meaning → Type 0
+AreFillsOf walk gs = All (λ g. IsFillOf walk g.word) gs
+
+-- the rows of a walk: there is one, each is that of a file, and each member is placed within the limit of addresses
+pub record IsFillable (n : Numbered) (walk : List ℕ) : Type 0 where
+  pub some : 0 < length walk
+  pub within : All (λ row. row < length n.files.now) walk
+  pub placed : All (IsPlacedRow n) walk
 
 pub record IsFilling (f : Filling) : Type 0 where
-  pub numbered : IsNumbered f.numbered.now
   pub some : 0 < length f.walk.now
-  pub within : All (λ row. row < length f.numbered.now.files.now) f.walk.now
-  pub placed : All (IsPlacedRow f.numbered.now) f.walk.now
+  pub loaded : AreLoadedAt f.numbered.now f.walk.now f.loaded.now
 
 -- the bytes of the program's original at the place of a relocation
 abbrev pub HasBytesAt : Filling → Reloc → List ℕ → Type 0
@@ -106,3 +120,11 @@ pub record AddsFill (f : Filling) (r : Reloc) (g : Meaning) (before after : List
 -- one for each relocation that is not NONE, in their order
 abbrev pub AreProgramFills : Filling → List Reloc → List Meaning → List form.Fill → Type 0
 AreProgramFills f rs gs fills = AllZip (IsFill f) (given_places rs gs) fills
+
+-- those of a program of these rows, with these words near what it copies
+pub record AreFillsNear (n : Numbered) (walk : List ℕ) (near : List Meaning) (rs : List Reloc) (gs : List Meaning) (made : List form.Fill) : Type 0 where
+  pub filling : Filling
+  pub numbered : filling.numbered.now ≡ n
+  pub rows : filling.walk.now ≡ walk
+  pub patches : filling.near.now ≡ words near
+  pub fills : AreProgramFills filling rs gs made

@@ -1,60 +1,85 @@
 // The bytes at the places of a program: its own words, and what its copies read.
-ghost use Rattle.std.specs.Prelude.{◌≡◌, ◌<◌, IfOk, OnOk, drop, length, take};
+ghost use Rattle.std.specs.Prelude.{◌≡◌, ◌<◌, [], ◌∷◌, IfOk, OnOk, drop, length, take};
+ghost use Rattle.std.specs.List.{All};
 ghost use Rattle.pl_base.specs.Bytes.{bytes64};
 ghost use Rattle.pl_form.specs.Words as form;
+ghost use Rattle.pl_image.specs.Image.{AreLoaded};
 ghost use Rattle.pl_rewrite.specs.Copies as spec;
 ghost use Rattle.pl_rewrite.specs.Rows as rows;
+ghost use Rattle.pl_value.specs.Linked as linked;
 
 use crate::numbers::Numbered;
 use pl_base::{Rows, push64};
 use pl_elf::constants::R_X86_64_NONE;
 use pl_form::Fill;
-use pl_image::{LoadedObject, Patch, load_object};
+use pl_image::{LoadedObject, Mask, Patches, load_object, read_loaded};
 use pl_object::Reloc;
-use pl_value::{Meaning, Word, read};
+use pl_value::{Meaning, Word, words};
 use std::alloc::{AllocError, Global};
 
-// ---- copies
+// ---- members
 
-/// The memory of the original of a member of a walk at its place.
+/// An object that loads nothing.
+fn loads_nothing<'f>(alloc: Global) -> LoadedObject<'f>
+    ensures { AreLoaded (result ∷ []) }
+{
+    let loads = Rows::new(alloc);
+    let tables = Rows::new(alloc);
+    LoadedObject {
+        pieces: Rows::new(alloc),
+        mask: Mask { loads, tables },
+    }
+}
+
+/// The memory of the original of a row at its place; what a row of no object loads is nothing.
 fn loaded_at<'f>(
     alloc: Global,
     numbered: &Numbered<'f>,
     row: usize,
-) -> Result<Option<LoadedObject<'f>>, AllocError>
+) -> Result<LoadedObject<'f>, AllocError>
     requires numbered { rows.IsNumbered numbered.now }
     requires row { row < length numbered.now.files.now }
     requires placed { spec.IsPlacedRow numbered.now row }
     ensures value { IfOk result (spec.IsLoadedAt numbered.now row) }
-    ensures loaded { IfOk result (λ l. spec.AreLoadedIfAny l) }
+    ensures loaded { IfOk result (λ l. AreLoaded (l ∷ [])) }
 {
     let taken = &numbered.files[row];
     let Some(object) = taken.object() else {
-        return Ok(None);
+        return Ok(loads_nothing(alloc));
     };
     let loaded = load_object(alloc, object, taken.original(), numbered.places[row])?;
-    Ok(Some(loaded))
+    Ok(loaded)
 }
 
-/// So many bytes of a member's memory, with patches over it.
-fn bytes_of(
+/// The memory of the originals of rows, each at its place.
+fn members_loaded<'f>(
     alloc: Global,
-    numbered: &Numbered<'_>,
-    row: usize,
-    patches: &[Patch],
-    from: u64,
-    bytes: u64,
-) -> Result<Vec<u8>, AllocError>
+    numbered: &Numbered<'f>,
+    walk: &[u32],
+) -> Result<Vec<LoadedObject<'f>>, AllocError>
     requires numbered { rows.IsNumbered numbered.now }
-    requires row { row < length numbered.now.files.now }
-    requires placed { spec.IsPlacedRow numbered.now row }
-    ensures { IfOk result (λ v. spec.AreBytesOf numbered.now row patches.now from bytes v.items) }
+    requires within { All (λ row. row < length numbered.now.files.now) walk.now }
+    requires placed { All (spec.IsPlacedRow numbered.now) walk.now }
+    ensures { IfOk result (λ v. spec.AreLoadedAt numbered.now walk.now v.items) }
 {
-    match loaded_at(alloc, numbered, row)? {
-        None => Ok(Vec::new(alloc)),
-        Some(loaded) => read(alloc, &[loaded], patches, from, bytes),
+    let mut members = Vec::new(alloc);
+    for row in walk {
+        let loaded = loaded_at(alloc, numbered, *row as usize)?;
+        members.push(loaded)?;
     }
+    Ok(members)
 }
+
+/// The part of some objects that is one of them.
+fn one_of<'t>(loaded: &'t [LoadedObject<'t>], member: u32) -> &'t [LoadedObject<'t>]
+    requires { member < length loaded.now }
+    ensures { spec.IsOneOf loaded.now member result.now }
+{
+    let index = member as usize;
+    &loaded[index..index + 1]
+}
+
+// ---- copies
 
 /// So many of the first bytes, as far as there are any.
 fn first_bytes(bytes: &[u8], count: usize) -> &[u8]
@@ -87,14 +112,17 @@ fn put_first(alloc: Global, bytes: &[u8], first: &[u8]) -> Result<Vec<u8>, Alloc
 
 /// What is asked of a program's places.
 #[derive(Clone, Copy)]
-pub struct Filling<'t> {
-    pub numbered: &'t Numbered<'t>,
+struct Filling<'t> {
+    numbered: &'t Numbered<'t>,
 
     /// The rows of the members of the program's walk, it first.
-    pub walk: &'t [u32],
+    walk: &'t [u32],
+
+    /// The memory of their originals.
+    loaded: &'t [LoadedObject<'t>],
 
     /// The words of the walk in the ranges from which the program copies.
-    pub near: &'t [Patch],
+    near: &'t Patches,
 }
 
 /// The bytes of the program's original at the place of a relocation.
@@ -102,15 +130,8 @@ fn standing_at(alloc: Global, filling: &Filling<'_>, reloc: &Reloc) -> Result<Ve
     requires { spec.IsFilling filling.now }
     ensures { IfOk result (λ v. spec.HasBytesAt filling.now reloc.now v.items) }
 {
-    let row = filling.walk[0] as usize;
-    bytes_of(
-        alloc,
-        filling.numbered,
-        row,
-        &[],
-        reloc.address,
-        reloc.width,
-    )
+    let loaded = one_of(filling.loaded, 0);
+    read_loaded(alloc, loaded, reloc.address, reloc.width)
 }
 
 /// What is copied of a member's memory, with the words that stand there.
@@ -125,8 +146,8 @@ fn copied(
     requires member { member < length filling.now.walk.now }
     ensures { IfOk result (λ v. spec.AreCopied filling.now member from bytes v.items) }
 {
-    let row = filling.walk[member as usize] as usize;
-    bytes_of(alloc, filling.numbered, row, filling.near, from, bytes)
+    let loaded = one_of(filling.loaded, member);
+    filling.near.read(alloc, loaded, from, bytes)
 }
 
 /// The bytes of a word, the lowest first.
@@ -167,7 +188,7 @@ fn bytes_at(
     meaning: &Meaning,
 ) -> Result<Vec<u8>, AllocError>
     requires filling { spec.IsFilling filling.now }
-    requires member { spec.IsFillOf filling.now meaning.now.word }
+    requires member { spec.IsFillOf filling.now.walk.now meaning.now.word }
     ensures { IfOk result (λ v. spec.FillsBy filling.now reloc.now meaning.now.word v.items) }
 {
     match meaning.word {
@@ -189,7 +210,7 @@ fn fill_at(
     meaning: &Meaning,
 ) -> Result<Fill, AllocError>
     requires filling { spec.IsFilling filling.now }
-    requires member { spec.IsFillOf filling.now meaning.now.word }
+    requires member { spec.IsFillOf filling.now.walk.now meaning.now.word }
     ensures { IfOk result (spec.IsFillAt filling.now reloc.now meaning.now) }
 {
     let bytes = bytes_at(alloc, filling, reloc, meaning)?;
@@ -216,7 +237,7 @@ fn push_fill(
     meaning: &Meaning,
 ) -> Result<(), AllocError>
     requires filling { spec.IsFilling filling.now }
-    requires member { spec.IsFillOf filling.now meaning.now.word }
+    requires member { spec.IsFillOf filling.now.walk.now meaning.now.word }
     ensures { OnOk result (spec.AddsFill filling.now reloc.now meaning.now
         fills.old.items fills.new.items) }
 {
@@ -229,8 +250,8 @@ fn push_fill(
     Ok(())
 }
 
-/// The bytes at the places of a program, as its scope makes them: a fill for each of its own relocations that is not NONE, in their order. `meanings` are what these give.
-pub fn fills_of(
+/// A fill for each of a program's own relocations that is not NONE, in their order. `meanings` are what these give.
+fn fills_of(
     alloc: Global,
     filling: &Filling<'_>,
     relocs: &[Reloc],
@@ -238,12 +259,49 @@ pub fn fills_of(
 ) -> Result<Vec<Fill>, AllocError>
     requires filling { spec.IsFilling filling.now }
     requires one_each { length meanings.now ≡ length relocs.now }
-    requires members { spec.AreFillsOf filling.now meanings.now }
+    requires members { spec.AreFillsOf filling.now.walk.now meanings.now }
     ensures { IfOk result (λ v. spec.AreProgramFills filling.now relocs.now meanings.now v.items) }
 {
     let mut fills = Vec::new(alloc);
     for index in 0..relocs.len() {
         push_fill(alloc, &mut fills, filling, &relocs[index], &meanings[index])?;
     }
+    Ok(fills)
+}
+
+/// The words that meanings give.
+fn word_patches(alloc: Global, meanings: &[Meaning]) -> Result<Patches, AllocError>
+    ensures { IfOk result (λ p. p ≡ linked.words meanings.now) }
+{
+    let patches = words(alloc, meanings)?;
+    let indexed = Patches::new(alloc, patches)?;
+    Ok(indexed)
+}
+
+/// The bytes at the places of a program, as its scope makes them: a fill for each of its own relocations that is not NONE, in their order. `walk` has the rows of its walk, it first, `near` the words of the walk in the ranges from which it copies, and `meanings` what its relocations give. The time grows as `n log n`, and as what is copied.
+pub fn program_fills(
+    alloc: Global,
+    numbered: &Numbered<'_>,
+    walk: &[u32],
+    near: &[Meaning],
+    relocs: &[Reloc],
+    meanings: &[Meaning],
+) -> Result<Vec<Fill>, AllocError>
+    requires numbered { rows.IsNumbered numbered.now }
+    requires walk { spec.IsFillable numbered.now walk.now }
+    requires one_each { length meanings.now ≡ length relocs.now }
+    requires members { spec.AreFillsOf walk.now meanings.now }
+    ensures { IfOk result (λ v. spec.AreFillsNear numbered.now walk.now near.now relocs.now
+        meanings.now v.items) }
+{
+    let patches = word_patches(alloc, near)?;
+    let loaded = members_loaded(alloc, numbered, walk)?;
+    let filling = Filling {
+        numbered,
+        walk,
+        loaded: &loaded,
+        near: &patches,
+    };
+    let fills = fills_of(alloc, &filling, relocs, meanings)?;
     Ok(fills)
 }

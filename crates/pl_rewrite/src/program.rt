@@ -7,7 +7,7 @@ ghost use Rattle.pl_rewrite.specs.Fills.{AreFirstFills};
 
 use crate::apart::are_set;
 use crate::conflict::{RemainingRows, remaining_rows};
-use crate::copies::{Filling, fills_of};
+use crate::copies::program_fills;
 use crate::given::own_meanings;
 use crate::lists::{digest_at, list_of};
 use crate::numbers::{Numbered, PlacedWalk};
@@ -18,7 +18,7 @@ use pl_form::{Fill, FormFault, Version, form_program_with};
 use pl_io::NoMemory;
 use pl_lists::ConflictRow;
 use pl_tls::{Module, TlsFault};
-use pl_value::{OrdinaryFault, words};
+use pl_value::OrdinaryFault;
 use std::alloc::Global;
 
 /// What the files of programs are made of: the files with their numbers, what their relocations find and hold, and the digests of originals, by rows.
@@ -55,15 +55,9 @@ fn contents_of(
     let own = meanings.as_slice();
     let made = remaining_rows(alloc, linking, walk, work.row_words, own)?;
     let RemainingRows { rows, near } = made;
-    let patches = words(alloc, &near)?;
-    let filling = Filling {
-        numbered: work.numbered,
-        walk,
-        near: &patches,
-    };
     let object = linking.scope.object(0);
     let relocs = object.relocations.as_slice();
-    let fills = fills_of(alloc, &filling, relocs, own)?;
+    let fills = program_fills(alloc, work.numbered, walk, &near, relocs, own)?;
     Ok(Contents { fills, rows })
 }
 

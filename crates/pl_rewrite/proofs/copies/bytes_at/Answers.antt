@@ -11,7 +11,7 @@ pub returns-in-Nothing : goal.returns-in-Nothing
 returns-in-Nothing c = subst (λ (w : Word). IfOk c.standing_at.result (λ v. FillsBy c.args.filling.now c.args.reloc.now w v.items)) (sym c.in-Nothing.is) c.standing_at.ensures
 
 pub copied_over-requires-clause-member : goal.copied_over-requires-clause-member
-copied_over-requires-clause-member c = subst (IsFillOf c.args.filling.now) c.in-Copy.is c.requires.member
+copied_over-requires-clause-member c = subst (IsFillOf c.args.filling.now.walk.now) c.in-Copy.is c.requires.member
 
 pub returns-in-Copy : goal.returns-in-Copy
 returns-in-Copy c = subst (λ (w : Word). IfOk c.copied_over.result (λ v. FillsBy c.args.filling.now c.args.reloc.now w v.items)) (sym c.in-Copy.is) c.copied_over.ensures

@@ -7,7 +7,7 @@ use Rattle.pl_rewrite.proofs.RowTestLaws.{column_at, file_or}
 use Rattle.pl_rewrite.proofs.copies.loaded_at.Goals as goal
 
 pub returns-in_default-clause-value : goal.returns-in_default-clause-value
-returns-in_default-clause-value c = loaded_none c.args.numbered.now c.args.row _ (file_or c.args.numbered.now c.args.row c.index-numbered-row.result c.requires.row) c.in_default.ensures
+returns-in_default-clause-value c = loaded_none c.args.numbered.now c.args.row _ c.loads_nothing.result (file_or c.args.numbered.now c.args.row c.index-numbered-row.result c.requires.row) c.in_default.ensures
 
 pub original-requires : goal.original-requires
 original-requires c = subst HasItsEntry c.index-numbered-row.is (read_item c.args.numbered.now.files.now c.args.row c.index-numbered-row.result (numbered_read c.args.numbered.now c.requires.numbered) c.requires.row c.index-numbered-row.is)

@@ -4,7 +4,7 @@ use Rattle.std.proofs.lemmas.Result.{err_from_is_err_and}
 use Rattle.pl_cone.specs.Links.{objects_of}
 use Rattle.pl_rewrite.specs.RemainingRows.{GivesFirst}
 use Rattle.pl_rewrite.proofs.NumberedLaws.{row_within}
-use Rattle.pl_rewrite.proofs.ProgramContentLaws.{can_list, contents_are, filling_is, found_first, own_each, own_members, own_refused, some_members}
+use Rattle.pl_rewrite.proofs.ProgramContentLaws.{can_list, contents_are, fillable_is, found_first, own_each, own_members, own_refused, some_members}
 use Rattle.pl_rewrite.proofs.RowsLaws.{object_at}
 use Rattle.pl_rewrite.proofs.program.contents_of.Goals as goal
 use Rattle.pl_scope.proofs.MemberLaws.{length_objects}
@@ -51,23 +51,25 @@ pub object-object-requires : goal.object-object-requires
 object-object-requires c =
     omega (arith, length_objects c.args.linking.now.scope.now, some_members c.args.work.now c.args.row c.args.linking.now c.requires.work c.requires.program c.requires.linking c.requires.set)
 
-pub fills_of-requires-clause-filling : goal.fills_of-requires-clause-filling
-fills_of-requires-clause-filling c = filling_is c.args.work.now c.args.row c.args.linking.now c.requires.work c.requires.program c.requires.linking c.requires.set _ refl c.walk-walk.ensures
+pub program_fills-requires-clause-walk : goal.program_fills-requires-clause-walk
+program_fills-requires-clause-walk c =
+    fillable_is c.args.work.now c.args.row c.args.linking.now c.requires.work c.requires.program c.requires.linking c.requires.set c.args.work.now.numbered.now c.walk-walk.result.now refl c.walk-walk.ensures
 
-pub fills_of-requires-clause-one_each : goal.fills_of-requires-clause-one_each
-fills_of-requires-clause-one_each c =
+pub program_fills-requires-clause-one_each : goal.program_fills-requires-clause-one_each
+program_fills-requires-clause-one_each c =
     let gives = subst (λ (gs : List Meaning). GivesFirst c.args.linking.now (Ok gs)) (sym c.as_slice-own.ensures) c.in_ok-meanings.ensures in
     own_each c.args.work.now c.args.row c.args.linking.now c.requires.work c.requires.program c.requires.linking c.requires.set c.as_slice-own.result.now c.object-object.result.now c.object-object.ensures.object gives
     ∙ ap length (sym c.as_slice-relocs.ensures)
 
-pub fills_of-requires-clause-members : goal.fills_of-requires-clause-members
-fills_of-requires-clause-members c =
+pub program_fills-requires-clause-members : goal.program_fills-requires-clause-members
+program_fills-requires-clause-members c =
     let gives = subst (λ (gs : List Meaning). GivesFirst c.args.linking.now (Ok gs)) (sym c.as_slice-own.ensures) c.in_ok-meanings.ensures in
-    own_members c.args.work.now c.args.row c.args.linking.now c.requires.work c.requires.program c.requires.linking c.requires.set _ c.as_slice-own.result.now c.object-object.result.now c.walk-walk.ensures c.object-object.ensures.object gives
+    own_members c.args.work.now c.args.row c.args.linking.now c.requires.work c.requires.program c.requires.linking c.requires.set c.walk-walk.result.now c.as_slice-own.result.now c.object-object.result.now c.walk-walk.ensures c.object-object.ensures.object gives
 
 pub returns : goal.returns
 returns c =
     let gives = subst (λ (gs : List Meaning). GivesFirst c.args.linking.now (Ok gs)) (sym c.as_slice-own.ensures) c.in_ok-meanings.ensures in
-    let patches = c.deref-2.ensures.value ∙ (c.in_ok-patches.ensures ∙ ap words c.deref.ensures.value) in
-    contents_are c.args.work.now c.args.row c.args.linking.now c.requires.work c.requires.program c.requires.linking c.requires.set _ _ c.walk-walk.result.now c.as_slice-own.result.now c.in_ok-made.made.near.items c.object-object.result.now (rw c.as_slice-relocs.ensures at c.in_ok-fills.ensures) c.walk-walk.ensures refl c.walk-walk.ensures patches gives
+    let made = c.in_ok-fills.ensures in
+    let patches = made.patches ∙ ap words c.deref.ensures.value in
+    contents_are c.args.work.now c.args.row c.args.linking.now c.requires.work c.requires.program c.requires.linking c.requires.set _ made.filling c.walk-walk.result.now c.as_slice-own.result.now c.in_ok-made.made.near.items c.object-object.result.now (rw c.as_slice-relocs.ensures at made.fills) c.walk-walk.ensures made.numbered (made.rows ∙ c.walk-walk.ensures) patches gives
     c.in_ok-made.ensures.rows c.in_ok-made.ensures.near c.object-object.ensures.object

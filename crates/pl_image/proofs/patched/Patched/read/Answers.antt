@@ -1,17 +1,8 @@
-use Rattle.std.proofs.Common.{◌≡◌, ap, ◌∙◌, length, arith}
-use Rattle.std.proofs.lemmas.List.{take_at}
-use Rattle.pl_base.specs.Memory.{filled, layered, read}
-use Rattle.pl_image.specs.Image.{Image, all_pieces, patched}
-use Rattle.pl_image.specs.Index.{AreNear}
-use Rattle.pl_image.proofs.PatchedLemmas.{read_patched}
+use Rattle.std.proofs.Common.{◌≡◌, subst}
+use Rattle.std.specs.Prelude.{IfOk}
+use Rattle.pl_base.specs.Memory.{read}
+use Rattle.pl_image.specs.Image.{Image, patched}
 use Rattle.pl_image.proofs.patched.Patched.read.Goals as goal
 
 pub returns : goal.returns
-returns c =
-    let base = layered (all_pieces c.self.inside.objects.now) in
-    let patches = c.self.inside.patches.items in
-    let long : length c.lay_all.new.bytes ≡ c.in_ok-bytes.bytes.len = omega (arith, c.lay_all.auto.bytes, c.deref_mut.ensures.len, ap length c.deref_mut.ensures.value) in
-    let near : AreNear patches c.near-near.result.now c.args.from c.args.size = rw c.deref.ensures.value at c.near-near.ensures in
-    let done : c.lay_all.new.bytes ≡ read (filled base patches) c.args.from c.args.size =
-    read_patched base patches c.near-near.result.now c.args.from c.args.size c.deref_mut.result.now c.lay_all.new.bytes near (c.deref_mut.ensures.value ∙ c.in_ok-bytes.ensures) (rw c.deref-3.ensures.value at c.lay_all.ensures) in
-    take_at c.lay_all.new.bytes _ c.in_ok-bytes.bytes.len long ∙ done ∙ ap (λ (i : Image). read (patched i) c.args.from c.args.size) c.self.view_is
+returns c = subst (λ (i : Image). IfOk c.read.result (λ v. v.items ≡ read (patched i) c.args.from c.args.size)) c.self.view_is c.read.ensures
