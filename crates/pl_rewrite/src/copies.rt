@@ -262,7 +262,7 @@ fn fills_of(
     requires members { spec.AreFillsOf filling.now.walk.now meanings.now }
     ensures { IfOk result (λ v. spec.AreProgramFills filling.now relocs.now meanings.now v.items) }
 {
-    let mut fills = Vec::new(alloc);
+    let mut fills = Vec::with_capacity(alloc, relocs.len())?;
     for index in 0..relocs.len() {
         push_fill(alloc, &mut fills, filling, &relocs[index], &meanings[index])?;
     }

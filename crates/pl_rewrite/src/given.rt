@@ -29,7 +29,7 @@ fn given_by(
         found.now }
     ensures { spec.GivesOf linking.now relocs.now result }
 {
-    let mut all = Rows::new(alloc);
+    let mut all = Rows::from_vec(Vec::with_capacity(alloc, relocs.len())?);
     for index in 0..relocs.len() {
         let meaning = meaning_with(linking, 0, &relocs[index], found[index])?;
         all.push(meaning)?;

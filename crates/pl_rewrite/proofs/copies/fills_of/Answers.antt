@@ -3,7 +3,7 @@ use Rattle.pl_rewrite.proofs.PlaceLaws.{fills_begin, fills_done, fills_more}
 use Rattle.pl_rewrite.proofs.copies.fills_of.Goals as goal
 
 pub loop-index-init : goal.loop-index-init
-loop-index-init c = fills_begin c.args.filling.now c.args.relocs.now c.args.meanings.now _ c.new-fills.ensures.items
+loop-index-init c = fills_begin c.args.filling.now c.args.relocs.now c.args.meanings.now _ c.in_ok-fills.ensures.items
 
 pub push_fill-requires-clause-member : goal.push_fill-requires-clause-member
 push_fill-requires-clause-member c = c.requires.members c.loop-index.index _ (omega (arith, c.requires.one_each))

@@ -1,4 +1,4 @@
-use Rattle.std.proofs.Common.{◌<◌, ap, length, arith, Option}
+use Rattle.std.proofs.Common.{◌<◌, ap, ◌∙◌, length, arith, Option}
 use Rattle.std.proofs.lemmas.Result.{err_from_is_err_and}
 use Rattle.std.proofs.lemmas.Slice.Zip.{AllZip-long}
 use Rattle.pl_base.specs.Answers.{because}
@@ -16,7 +16,7 @@ use Rattle.pl_value.specs.Values.{reference}
 use Rattle.pl_rewrite.proofs.given.given_by.Goals as goal
 
 pub loop-index-init : goal.loop-index-init
-loop-index-init c = rw c.new-all.ensures (front_nothing (given_in c.args.linking.now 0 c.args.relocs.now))
+loop-index-init c = rw (c.from_vec-all.ensures ∙ c.in_ok-with_capacity.ensures.items) (front_nothing (given_in c.args.linking.now 0 c.args.relocs.now))
 
 pub meaning_with-requires-clause-reference : goal.meaning_with-requires-clause-reference
 meaning_with-requires-clause-reference c =
@@ -33,7 +33,7 @@ bounds-found-index c = omega (arith, AllZip-long (λ (r : Reloc) (x : Option Fou
 
 pub returns-in_err-meaning : goal.returns-in_err-meaning
 returns-in_err-meaning c =
-    let p = err_from_is_err_and c.from_residual.result c.from_residual.ensures.1 in
+    let p = err_from_is_err_and c.from_residual-in_err-meaning.result c.from_residual-in_err-meaning.ensures.1 in
     rw (p.1, p.2) (ap (because Link) (reloc_stops (meaning (objects_of c.args.linking.now) c.args.linking.now.places.now c.args.linking.now.modules.now) 0 c.args.relocs.now c.loop-index.index _ c.loop-index.all _ _ (omega arith) c.in_err-meaning.ensures c.loop-index.invariant))
 
 pub loop-index-preserved : goal.loop-index-preserved
