@@ -4,7 +4,10 @@ pub mod Words
 pub mod SymbolLines
 pub mod RelocationLines
 pub mod Grammar
+pub mod TextIndex
+pub mod PackedIndex
 pub mod Checks
+pub mod NamedLines
 pub mod Recipe
 pub mod FileKinds
 pub mod Fields
@@ -17,6 +20,7 @@ pub mod SymbolTable
 pub mod Versions
 pub mod HashTables
 pub mod Relocations
+pub mod IndexedPlan
 pub mod Packed
 pub mod Dynamic
 pub mod Layout

@@ -62,3 +62,21 @@ added r line = record r { settings = set r.settings line }
 
 unfoldable pub gathered : List Line → Recipe
 gathered lines = fold added empty lines
+
+-- ---- the same with the packed words in the order of their lines, until all lines are there
+
+abbrev pub pushed : Recipe → Line → Recipe
+pushed r (Needs name) = record r { needs = r.needs ++ name ∷ [] }
+pushed r (Put w) = record r { words = r.words ++ w ∷ [] }
+pushed r (Version name) = record r { versions = r.versions ++ name ∷ [] }
+pushed r (Names s) = record r { symbols = r.symbols ++ s ∷ [] }
+pushed r (Relocates x) = record r { relocations = r.relocations ++ x ∷ [] }
+pushed r (Packs w) = record r { packed = r.packed ++ w ∷ [] }
+pushed r line = record r { settings = set r.settings line }
+
+-- words in the order of their offsets, those of one offset in their order
+unfoldable pub in_order : List PackedWord → List PackedWord
+in_order words = fold (λ sorted w. inserted w sorted) [] words
+
+abbrev pub sorted_recipe : Recipe → Recipe
+sorted_recipe r = record r { packed = in_order r.packed }

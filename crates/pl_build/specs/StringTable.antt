@@ -20,6 +20,10 @@ has_text text entry = bytes_eq entry.text text
 abbrev pub ended : List ℕ → List ℕ → List ℕ
 ended bytes text = bytes ++ text ++ 0 ∷ []
 
+-- a text behind the others
+abbrev pub text_behind : StringTable → List ℕ → StringTable
+text_behind s text = record { bytes = ended s.bytes text; entries = s.entries ++ (record { text = text; at = length s.bytes }) ∷ [] }
+
 -- one text more, unless it is empty or there already
 unfoldable pub text_added : StringTable → List ℕ → StringTable
 text_added s text =

@@ -30,7 +30,7 @@ fn made_of(alloc: Global, lines: Vec<Line>) -> Result<Rows<u8>, RecipeFault>
     requires { IfSome (first_fault lines.items) (λ fault. fault.line < 2 ^ 32) }
     ensures { spec.Builds result (spec.made_of lines.items) }
 {
-    if let Some(fault) = first_fault(lines.as_slice()) {
+    if let Some(fault) = first_fault(alloc, lines.as_slice())? {
         return Err(RecipeFault::Bad {
             line: fault.line as u32,
             kind: fault.kind,

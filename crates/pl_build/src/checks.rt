@@ -1,16 +1,23 @@
 // The faults of a recipe's lines.
-ghost use Rattle.std.specs.Prelude.{◌≡◌, ◌-◌, ◌<◌, ◌^◌, Some, find, length, map};
+ghost use Rattle.std.specs.Prelude.{◌≡◌, ◌+◌, ◌-◌, ◌%◌, ◌<◌, ◌^◌, ◌||◌, ◌==◌, Some, find, length, map, nat_lt, take, IfOk};
 ghost use Rattle.std.specs.List.{list_any};
-ghost use Rattle.std.specs.Option.{option_copied};
+ghost use Rattle.std.specs.Option.{option_copied, option_map};
 ghost use Rattle.std.specs.Str.{bytes_eq};
+ghost use Rattle.pl_build.specs.TextIndex.{IsIndexOf};
+ghost use Rattle.pl_build.specs.PackedIndex as packed;
+ghost use Rattle.pl_build.specs.NamedLines.{AreNamed};
+ghost use Rattle.pl_build.specs.NamedLines as named;
 ghost use Rattle.pl_build.specs.Checks as spec;
 
 use crate::constants::{MAX_ADDEND, MAX_BSS, MAX_BUCKETS, MAX_DATA, MAX_SPARE};
 use crate::line::{Addend, Line, PackedWord, SymbolLine};
 use crate::names::is;
+use crate::packed_index::PackedIndex;
 use crate::relocation_lines::is_no_symbol;
+use crate::text_index::TextIndex;
 use pl_base::end;
 use pl_elf::constants::WORD64_SIZE;
+use std::alloc::{AllocError, Global};
 
 /// A fault of a recipe.
 #[derive(Clone, Copy)]
@@ -20,6 +27,15 @@ pub struct Fault {
 
     /// The lowest kind of the line's faults, 0 for none; 5 where the line is 0.
     pub kind: u8,
+}
+
+/// The lines of a recipe, with where a symbol is named first as it is written, where a version is defined first, and where a packed word stands first at an offset.
+#[derive(Drop)]
+pub struct NamedLines<'a> {
+    pub lines: &'a [Line],
+    pub written: TextIndex<'a>,
+    pub versions: TextIndex<'a>,
+    pub packed: PackedIndex,
 }
 
 fn is_first(line: &Line) -> bool
@@ -82,37 +98,54 @@ fn is_over_addend(addend: Addend) -> bool
     addend.magnitude > most
 }
 
-fn shares(offset: u64, line: &Line) -> bool
-    ensures { result ≡ spec.shares offset line.now }
+/// Whether one of the lines before an index has a packed word at an offset.
+fn packs_before(lines: &NamedLines<'_>, index: usize, offset: u64) -> bool
+    requires { AreNamed lines.now }
+    ensures { result ≡ list_any (packed.packs_at offset) (take index lines.now.lines.now) }
 {
-    match line {
-        Line::Packs(word) => {
-            u128::from(offset) < end(word.offset, WORD64_SIZE)
-                && u128::from(word.offset) < end(offset, WORD64_SIZE)
-        }
-        _ => false,
+    match lines.packed.first(offset) {
+        None => false,
+        Some(place) => place < index,
     }
 }
 
-fn shares_any(offset: u64, before: &[Line]) -> bool
-    ensures { result ≡ list_any (spec.shares offset) before.now }
+/// Whether a packed word of one of the lines before an index shares a byte with one at an offset. Of those that do there are fifteen offsets.
+fn shares_before(lines: &NamedLines<'_>, index: usize, offset: u64) -> bool
+    requires named { AreNamed lines.now }
+    requires fits { offset + 8 < 2 ^ 64 }
+    ensures { result ≡ list_any (spec.shares offset) (take index lines.now.lines.now) }
 {
-    before.iter().any(|line| shares(offset, line))
+    let start = offset.saturating_sub(7);
+    for other in start..offset + 8 {
+        if packs_before(lines, index, other) {
+            return true;
+        }
+    }
+    false
+}
+
+/// Whether a packed word stands at an odd offset, or passes so many bytes of data.
+fn is_astray(size: u64, word: PackedWord) -> bool
+    ensures { result ≡ (word.offset % 2 == 1 || nat_lt size (word.offset + WORD64_SIZE)) }
+{
+    word.offset % 2 == 1 || end(word.offset, WORD64_SIZE) > u128::from(size)
 }
 
 #[tactic(auto, unfolding(crate::specs::Checks::is_over_packed))]
-fn is_over_packed(before: &[Line], size: u64, word: PackedWord) -> bool
-    ensures { result ≡ spec.is_over_packed before.now size word }
+fn is_over_packed(lines: &NamedLines<'_>, index: usize, size: u64, word: PackedWord) -> bool
+    requires { AreNamed lines.now }
+    ensures { result ≡ spec.is_over_packed (take index lines.now.lines.now) size word }
 {
-    word.offset % 2 == 1
-        || end(word.offset, WORD64_SIZE) > u128::from(size)
-        || shares_any(word.offset, before)
-        || is_over_addend(word.addend)
+    if is_astray(size, word) {
+        return true;
+    }
+    shares_before(lines, index, word.offset) || is_over_addend(word.addend)
 }
 
 #[tactic(auto, unfolding(crate::specs::Checks::is_over))]
-fn is_over(before: &[Line], size: u64, line: &Line) -> bool
-    ensures { result ≡ spec.is_over before.now size line.now }
+fn is_over(lines: &NamedLines<'_>, index: usize, size: u64, line: &Line) -> bool
+    requires { AreNamed lines.now }
+    ensures { result ≡ spec.is_over (take index lines.now.lines.now) size line.now }
 {
     match line {
         Line::Buckets(n) => *n == 0 || *n > MAX_BUCKETS,
@@ -121,39 +154,106 @@ fn is_over(before: &[Line], size: u64, line: &Line) -> bool
         Line::Bss(n) => *n > MAX_BSS,
         Line::Put(word) => end(word.offset, WORD64_SIZE) > u128::from(size),
         Line::Relocates(relocation) => is_over_addend(relocation.addend),
-        Line::Packs(word) => is_over_packed(before, size, *word),
+        Line::Packs(word) => is_over_packed(lines, index, size, *word),
         _ => false,
     }
 }
 
-fn writes(name: &[u8], line: &Line) -> bool
-    ensures { result ≡ spec.writes name.now line.now }
+fn written_name(line: &Line) -> Option<&[u8]>
+    ensures { option_map (λ name. name.now) result ≡ named.written_name line.now }
 {
     match line {
-        Line::Names(symbol) => is(symbol.written.as_slice(), name),
-        _ => false,
+        Line::Names(symbol) => Some(symbol.written.as_slice()),
+        _ => None,
     }
 }
 
-fn defines(name: &[u8], line: &Line) -> bool
-    ensures { result ≡ spec.defines name.now line.now }
+fn defined_version(line: &Line) -> Option<&[u8]>
+    ensures { option_map (λ name. name.now) result ≡ named.defined_version line.now }
 {
     match line {
-        Line::Version(version) => is(version.as_slice(), name),
-        _ => false,
+        Line::Version(version) => Some(version.as_slice()),
+        _ => None,
     }
 }
 
-fn is_written_in(lines: &[Line], name: &[u8]) -> bool
-    ensures { result ≡ list_any (spec.writes name.now) lines.now }
+/// Where symbols are named first.
+fn written_index<'a>(alloc: Global, lines: &'a [Line]) -> Result<TextIndex<'a>, AllocError>
+    ensures { IfOk result (λ index. IsIndexOf spec.writes lines.now index) }
 {
-    lines.iter().any(|line| writes(name, line))
+    let mut index = TextIndex::new(alloc);
+    for place in 0..lines.len() {
+        index.note(written_name(&lines[place]), place)?;
+    }
+    Ok(index)
 }
 
-fn is_defined_in(lines: &[Line], name: &[u8]) -> bool
-    ensures { result ≡ list_any (spec.defines name.now) lines.now }
+/// Where versions are defined first.
+fn version_index<'a>(alloc: Global, lines: &'a [Line]) -> Result<TextIndex<'a>, AllocError>
+    ensures { IfOk result (λ index. IsIndexOf spec.defines lines.now index) }
 {
-    lines.iter().any(|line| defines(name, line))
+    let mut index = TextIndex::new(alloc);
+    for place in 0..lines.len() {
+        index.note(defined_version(&lines[place]), place)?;
+    }
+    Ok(index)
+}
+
+fn packed_offset(line: &Line) -> Option<u64>
+    ensures { result ≡ packed.packed_offset line.now }
+{
+    match line {
+        Line::Packs(word) => Some(word.offset),
+        _ => None,
+    }
+}
+
+/// Where packed words stand first.
+fn packed_index(alloc: Global, lines: &[Line]) -> Result<PackedIndex, AllocError>
+    ensures { IfOk result (λ index. packed.IsPackedIndex lines.now index) }
+{
+    let mut index = PackedIndex::new(alloc);
+    for place in 0..lines.len() {
+        index.note(packed_offset(&lines[place]), place)?;
+    }
+    Ok(index)
+}
+
+fn named_lines<'a>(alloc: Global, lines: &'a [Line]) -> Result<NamedLines<'a>, AllocError>
+    ensures same { IfOk result (λ named. named.lines.now ≡ lines.now) }
+    ensures named { IfOk result (λ named. AreNamed named) }
+{
+    Ok(NamedLines {
+        lines,
+        written: written_index(alloc, lines)?,
+        versions: version_index(alloc, lines)?,
+        packed: packed_index(alloc, lines)?,
+    })
+}
+
+fn is_written(lines: &NamedLines<'_>, name: &[u8]) -> bool
+    requires { AreNamed lines.now }
+    ensures { result ≡ list_any (spec.writes name.now) lines.now.lines.now }
+{
+    lines.written.first(name).is_some()
+}
+
+/// Whether a symbol is named by one of the lines before an index.
+fn is_written_before(lines: &NamedLines<'_>, index: usize, name: &[u8]) -> bool
+    requires { AreNamed lines.now }
+    ensures { result ≡ list_any (spec.writes name.now) (take index lines.now.lines.now) }
+{
+    match lines.written.first(name) {
+        None => false,
+        Some(place) => place < index,
+    }
+}
+
+fn is_defined(lines: &NamedLines<'_>, version: &[u8]) -> bool
+    requires { AreNamed lines.now }
+    ensures { result ≡ list_any (spec.defines version.now) lines.now.lines.now }
+{
+    lines.versions.first(version).is_some()
 }
 
 #[tactic(auto, unfolding(crate::specs::Checks::wants_version))]
@@ -164,16 +264,17 @@ fn wants_version(symbol: &SymbolLine) -> bool
 }
 
 #[tactic(auto, unfolding(crate::specs::Checks::is_unknown))]
-fn is_unknown(lines: &[Line], line: &Line) -> bool
-    ensures { result ≡ spec.is_unknown lines.now line.now }
+fn is_unknown(lines: &NamedLines<'_>, line: &Line) -> bool
+    requires { AreNamed lines.now }
+    ensures { result ≡ spec.is_unknown lines.now.lines.now line.now }
 {
     match line {
         Line::Relocates(relocation) => {
             let name = relocation.name.as_slice();
-            !is_no_symbol(name) && !is_written_in(lines, name)
+            !is_no_symbol(name) && !is_written(lines, name)
         }
         Line::Names(symbol) => {
-            wants_version(symbol) && !is_defined_in(lines, symbol.version.as_slice())
+            wants_version(symbol) && !is_defined(lines, symbol.version.as_slice())
         }
         _ => false,
     }
@@ -204,12 +305,14 @@ fn stands_in(lines: &[Line], word: &[u8]) -> bool
 }
 
 #[tactic(auto, unfolding(crate::specs::Checks::is_repeated))]
-fn is_repeated(before: &[Line], line: &Line) -> bool
-    ensures { result ≡ spec.is_repeated before.now line.now }
+fn is_repeated(lines: &NamedLines<'_>, index: usize, line: &Line) -> bool
+    requires named { AreNamed lines.now }
+    requires within { index < length lines.now.lines.now }
+    ensures { result ≡ spec.is_repeated (take index lines.now.lines.now) line.now }
 {
     match line {
-        Line::Names(symbol) => is_written_in(before, symbol.written.as_slice()),
-        _ => !keyword(line).is_empty() && stands_in(before, keyword(line)),
+        Line::Names(symbol) => is_written_before(lines, index, symbol.written.as_slice()),
+        _ => !keyword(line).is_empty() && stands_in(&lines.lines[..index], keyword(line)),
     }
 }
 
@@ -236,17 +339,18 @@ fn data_size(lines: &[Line]) -> u64
 }
 
 #[tactic(auto, unfolding(crate::specs::Checks::lowest_kind))]
-fn lowest_kind(lines: &[Line], size: u64, index: usize, line: &Line) -> u8
-    requires { index < length lines.now }
-    ensures { result ≡ spec.lowest_kind lines.now size index line.now }
+fn lowest_kind(lines: &NamedLines<'_>, size: u64, index: usize, line: &Line) -> u8
+    requires named { AreNamed lines.now }
+    requires within { index < length lines.now.lines.now }
+    ensures { result ≡ spec.lowest_kind lines.now.lines.now size index line.now }
 {
-    if is_wrong(lines, index, line) {
+    if is_wrong(lines.lines, index, line) {
         1
-    } else if is_over(&lines[..index], size, line) {
+    } else if is_over(lines, index, size, line) {
         2
     } else if is_unknown(lines, line) {
         3
-    } else if is_repeated(&lines[..index], line) {
+    } else if is_repeated(lines, index, line) {
         4
     } else {
         0
@@ -254,11 +358,12 @@ fn lowest_kind(lines: &[Line], size: u64, index: usize, line: &Line) -> u8
 }
 
 #[tactic(auto, unfolding(crate::specs::Checks::fault_at))]
-fn fault_at(lines: &[Line], size: u64, index: usize) -> Fault
-    requires { index < length lines.now }
-    ensures { result ≡ spec.fault_at lines.now size index }
+fn fault_at(lines: &NamedLines<'_>, size: u64, index: usize) -> Fault
+    requires named { AreNamed lines.now }
+    requires within { index < length lines.now.lines.now }
+    ensures { result ≡ spec.fault_at lines.now.lines.now size index }
 {
-    let kind = match lines.get(index) {
+    let kind = match lines.lines.get(index) {
         Some(line) => lowest_kind(lines, size, index, line),
         None => 0,
     };
@@ -268,13 +373,21 @@ fn fault_at(lines: &[Line], size: u64, index: usize) -> Fault
     }
 }
 
-/// The first line with a fault, and the lowest kind of its faults.
 #[tactic(auto, unfolding(crate::specs::Checks::first_fault, crate::specs::Checks::faults))]
-pub fn first_fault(lines: &[Line]) -> Option<Fault>
-    ensures { result ≡ spec.first_fault lines.now }
+fn first_fault_of(lines: &NamedLines<'_>) -> Option<Fault>
+    requires { AreNamed lines.now }
+    ensures { result ≡ spec.first_fault lines.now.lines.now }
 {
-    let size = data_size(lines);
-    (0..lines.len())
+    let size = data_size(lines.lines);
+    (0..lines.lines.len())
         .map(|index| fault_at(lines, size, index))
         .find(|fault| fault.kind != 0)
+}
+
+/// The first line with a fault, and the lowest kind of its faults. The time grows as `n log n`.
+pub fn first_fault(alloc: Global, lines: &[Line]) -> Result<Option<Fault>, AllocError>
+    ensures { IfOk result (λ fault. fault ≡ spec.first_fault lines.now) }
+{
+    let named = named_lines(alloc, lines)?;
+    Ok(first_fault_of(&named))
 }

@@ -4,11 +4,10 @@ ghost use Rattle.pl_build.specs.Dynamic as spec;
 
 use crate::choices::chosen;
 use crate::fields::{Field, Row, push_fields, push_rows};
-use crate::layout_plan::LayoutPlan;
+use crate::indexed_plan::IndexedPlan;
 use crate::names::is;
 use crate::recipe::Settings;
 use crate::roles::{PlacedSection, Role, section_name};
-use crate::string_table::text_at;
 use pl_dyn::Tag;
 use pl_dyn::constants::{
     DF_1_NOW, DF_1_PIE, DF_BIND_NOW, DT_BIND_NOW, DT_DEBUG, DT_FLAGS, DT_FLAGS_1, DT_GNU_HASH,
@@ -75,20 +74,21 @@ pub fn is_there(place: &PlacedSection) -> bool
 }
 
 #[tactic(auto, unfolding(crate::specs::Dynamic::needed_tags))]
-fn needed_tags(alloc: Global, plan: &LayoutPlan) -> Result<Vec<Tag>, AllocError>
+fn needed_tags(alloc: Global, plan: &IndexedPlan<'_>) -> Result<Vec<Tag>, AllocError>
     ensures { IfOk result (λ v. v.items ≡ spec.needed_tags plan.now) }
 {
-    plan.needed
+    plan.layout()
+        .needed
         .as_slice()
         .iter()
-        .map(|name| tag(DT_NEEDED, text_at(&plan.strings, name.as_slice())))
+        .map(|name| tag(DT_NEEDED, plan.text_at(name.as_slice())))
         .collect(alloc)
 }
 
 #[tactic(auto, unfolding(crate::specs::Dynamic::table_tags))]
 fn table_tags(
     alloc: Global,
-    plan: &LayoutPlan,
+    plan: &IndexedPlan<'_>,
     places: &[PlacedSection],
 ) -> Result<Vec<Tag>, AllocError>
     ensures { IfOk result (λ v. v.items ≡ spec.table_tags plan.now places.now) }
@@ -106,7 +106,7 @@ fn table_tags(
             (true, tag(DT_SYMTAB, symbols.addr)),
             (true, tag(DT_STRSZ, strings.size)),
             (true, tag(DT_SYMENT, SYMBOL_SIZE as u64)),
-            (plan.settings.symbolic, tag(DT_SYMBOLIC, 0)),
+            (plan.layout().settings.symbolic, tag(DT_SYMBOLIC, 0)),
         ],
     )
 }
@@ -148,7 +148,7 @@ fn packed_tags(alloc: Global, places: &[PlacedSection]) -> Result<Vec<Tag>, Allo
 #[tactic(auto, unfolding(crate::specs::Dynamic::version_tags))]
 fn version_tags(
     alloc: Global,
-    plan: &LayoutPlan,
+    plan: &IndexedPlan<'_>,
     places: &[PlacedSection],
 ) -> Result<Vec<Tag>, AllocError>
     ensures { IfOk result (λ v. v.items ≡ spec.version_tags plan.now places.now) }
@@ -156,8 +156,8 @@ fn version_tags(
     let words = place_of(places, b".gnu.version");
     let defined = place_of(places, b".gnu.version_d");
     let needed = place_of(places, b".gnu.version_r");
-    let defs = plan.versions.as_slice().len() as u64 + 1;
-    let files = plan.files.as_slice().len() as u64;
+    let defs = plan.layout().versions.as_slice().len() as u64 + 1;
+    let files = plan.layout().files.as_slice().len() as u64;
     chosen(
         alloc,
         &[
@@ -180,15 +180,18 @@ fn flags_1(settings: &Settings) -> u64
 }
 
 #[tactic(auto, unfolding(crate::specs::Dynamic::usual_tags))]
-fn usual_tags(alloc: Global, plan: &LayoutPlan) -> Result<Vec<Tag>, AllocError>
+fn usual_tags(alloc: Global, plan: &IndexedPlan<'_>) -> Result<Vec<Tag>, AllocError>
     ensures { IfOk result (λ v. v.items ≡ spec.usual_tags plan.now) }
 {
-    let usual = plan.settings.usual;
-    let flags_1 = flags_1(&plan.settings);
+    let usual = plan.layout().settings.usual;
+    let flags_1 = flags_1(&plan.layout().settings);
     chosen(
         alloc,
         &[
-            (usual && plan.settings.kind.is_program(), tag(DT_DEBUG, 0)),
+            (
+                usual && plan.layout().settings.kind.is_program(),
+                tag(DT_DEBUG, 0),
+            ),
             (usual, tag(DT_BIND_NOW, 0)),
             (usual, tag(DT_FLAGS, DF_BIND_NOW)),
             (flags_1 != 0, tag(DT_FLAGS_1, flags_1)),
@@ -197,10 +200,10 @@ fn usual_tags(alloc: Global, plan: &LayoutPlan) -> Result<Vec<Tag>, AllocError>
 }
 
 #[tactic(auto, unfolding(crate::specs::Dynamic::spare_tags))]
-fn spare_tags(alloc: Global, plan: &LayoutPlan) -> Result<Vec<Tag>, AllocError>
+fn spare_tags(alloc: Global, plan: &IndexedPlan<'_>) -> Result<Vec<Tag>, AllocError>
     ensures { IfOk result (λ v. v.items ≡ spec.spare_tags plan.now) }
 {
-    (0..plan.settings.spare)
+    (0..plan.layout().settings.spare)
         .map(|_| tag(DT_NULL, 0))
         .collect(alloc)
 }
@@ -209,7 +212,7 @@ fn spare_tags(alloc: Global, plan: &LayoutPlan) -> Result<Vec<Tag>, AllocError>
 #[tactic(auto, unfolding(crate::specs::Dynamic::dynamic_table))]
 pub fn dynamic_table(
     alloc: Global,
-    plan: &LayoutPlan,
+    plan: &IndexedPlan<'_>,
     places: &[PlacedSection],
 ) -> Result<Vec<u8>, AllocError>
     ensures { IfOk result (λ v. v.items ≡ spec.dynamic_table plan.now places.now) }

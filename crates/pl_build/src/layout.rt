@@ -8,6 +8,7 @@ use crate::constants::{MAX_TABLES, TABLE_ALIGN, TABLES_OFFSET};
 use crate::dynamic::dynamic_table;
 use crate::fault::RecipeFault;
 use crate::hash_tables::{gnu_table, sysv_table};
+use crate::indexed_plan::IndexedPlan;
 use crate::layout_plan::{LayoutPlan, base_of};
 use crate::packed::packed_table;
 use crate::relocations::{jump_slots, others};
@@ -37,23 +38,23 @@ fn no_tables(alloc: Global) -> Tables
 #[tactic(auto, unfolding(crate::specs::Layout::contents))]
 fn contents(
     alloc: Global,
-    plan: &LayoutPlan,
+    plan: &IndexedPlan<'_>,
     places: &[PlacedSection],
     role: Role,
 ) -> Result<Vec<u8>, AllocError>
     ensures { IfOk result (λ v. v.items ≡ spec.contents plan.now places.now role) }
 {
     match role {
-        Role::Hash => sysv_table(alloc, plan),
-        Role::GnuHash => gnu_table(alloc, plan),
+        Role::Hash => sysv_table(alloc, plan.layout()),
+        Role::GnuHash => gnu_table(alloc, plan.layout()),
         Role::Dynsym => symbol_table(alloc, plan),
-        Role::Dynstr => Vec::from_slice(alloc, plan.strings.bytes.as_slice()),
+        Role::Dynstr => Vec::from_slice(alloc, plan.layout().strings.bytes.as_slice()),
         Role::Versym => version_words(alloc, plan),
         Role::Verdef => verdefs(alloc, plan),
         Role::Verneed => verneeds(alloc, plan),
         Role::RelaDyn => others(alloc, plan),
         Role::RelaPlt => jump_slots(alloc, plan),
-        Role::RelrDyn => packed_table(alloc, plan),
+        Role::RelrDyn => packed_table(alloc, plan.layout()),
         Role::Dynamic => dynamic_table(alloc, plan, places),
         _ => Ok(Vec::new(alloc)),
     }
@@ -136,7 +137,7 @@ fn in_limit(tables: Tables) -> Result<Tables, RecipeFault>
 #[tactic(auto, unfolding(crate::specs::Layout::role_added))]
 fn add_role(
     alloc: Global,
-    plan: &LayoutPlan,
+    plan: &IndexedPlan<'_>,
     tables: Tables,
     role: Role,
 ) -> Result<Tables, RecipeFault>
@@ -148,11 +149,11 @@ fn add_role(
     if content.is_empty() {
         return Ok(tables);
     }
-    let tables = add_table(plan, tables, role, content.as_slice())?;
+    let tables = add_table(plan.layout(), tables, role, content.as_slice())?;
     in_limit(tables)
 }
 
-fn add_roles(alloc: Global, plan: &LayoutPlan, roles: &[Role]) -> Result<Tables, RecipeFault>
+fn add_roles(alloc: Global, plan: &IndexedPlan<'_>, roles: &[Role]) -> Result<Tables, RecipeFault>
     ensures answer { Builds result (run (spec.role_added plan.now) spec.no_tables roles.now) }
     ensures small { IfOk result (λ t. spec.end_of t ≤ MAX_TABLES) }
 {
@@ -169,5 +170,6 @@ pub fn lay_out(alloc: Global, plan: &LayoutPlan) -> Result<Tables, RecipeFault>
     ensures answer { Builds result (spec.tables plan.now) }
     ensures small { IfOk result (λ t. spec.end_of t ≤ MAX_TABLES) }
 {
-    add_roles(alloc, plan, plan.roles.as_slice())
+    let indexed = IndexedPlan::of(alloc, plan)?;
+    add_roles(alloc, &indexed, plan.roles.as_slice())
 }

@@ -179,7 +179,7 @@ fn strings_of(
     let strings = add_texts(alloc, start(alloc)?, recipe.needs.as_slice())?;
     let strings = add_symbols(alloc, strings, symbols)?;
     let strings = add_versions(alloc, strings, recipe.versions.as_slice())?;
-    add_files(alloc, strings, needs, files)
+    Ok(add_files(alloc, strings, needs, files)?.into_table())
 }
 
 /// What is to be laid out for a recipe.

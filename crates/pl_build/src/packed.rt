@@ -1,9 +1,8 @@
 // Words that the packed table relocates.
-ghost use Rattle.std.specs.Prelude.{◌≡◌, ◌≤◌, IfOk, length, map};
+ghost use Rattle.std.specs.Prelude.{◌≡◌, IfOk, map};
 ghost use Rattle.pl_build.specs.Packed as spec;
 ghost use Rattle.pl_build.specs.LayoutPlan as plan;
-ghost use Rattle.std.specs.List.{prefix_len};
-ghost use Rattle.pl_build.specs.Recipe.{inserted, is_up_to};
+ghost use Rattle.pl_build.specs.Recipe as gathering;
 
 use crate::layout_plan::{LayoutPlan, data_address};
 use crate::line::{Addend, DataWord, PackedWord};
@@ -24,26 +23,13 @@ pub fn addend_of(addend: Addend) -> u64
     }
 }
 
-/// How many of the first words stand up to the offset of another.
-fn count_up_to(words: &[PackedWord], word: PackedWord) -> usize
-    ensures value { result ≡ prefix_len (is_up_to word) words.now }
-    ensures within { result ≤ length words.now }
+/// Words in the order of their offsets, those of one offset in their order. The time grows as `n log n`.
+pub fn in_order(words: Rows<PackedWord>) -> Result<Rows<PackedWord>, AllocError>
+    ensures { IfOk result (λ rows. rows ≡ gathering.in_order words) }
 {
-    words
-        .iter()
-        .take_while(|other| other.offset <= word.offset)
-        .count()
-}
-
-/// One word more among those in the order of their offsets.
-#[tactic(auto, using(crate::proofs::PackedLaws::insert_behind))]
-pub fn insert(words: Rows<PackedWord>, word: PackedWord) -> Result<Rows<PackedWord>, AllocError>
-    ensures { IfOk result (λ rows. rows ≡ inserted word words) }
-{
-    let at = count_up_to(words.as_slice(), word);
-    let mut words = words.into_vec();
-    words.insert(at, word)?;
-    Ok(Rows::from_vec(words))
+    let mut sorted = words.into_vec();
+    sorted.sort_by_key(|word| word.offset)?;
+    Ok(Rows::from_vec(sorted))
 }
 
 /// What the data holds at a packed word: an address.

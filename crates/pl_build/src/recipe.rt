@@ -4,7 +4,7 @@ ghost use Rattle.pl_build.specs.Recipe as spec;
 use crate::constants::{BUCKETS, SPARE};
 use crate::kind::FileKind;
 use crate::line::{DataWord, Hashes, Line, PackedWord, Relocation, SymbolLine, TlsBlock};
-use crate::packed::insert;
+use crate::packed::in_order;
 use crate::symbols::copy_symbol;
 use crate::words::copy_of;
 use pl_base::Rows;
@@ -132,8 +132,9 @@ fn copy_relocation(alloc: Global, relocation: &Relocation) -> Result<Relocation,
     })
 }
 
-fn with_packed(recipe: Recipe, word: PackedWord) -> Result<Recipe, AllocError>
-    ensures { IfOk result (λ r. r ≡ spec.with_packed recipe word) }
+/// The packed words in the order of their offsets.
+fn sorted_recipe(recipe: Recipe) -> Result<Recipe, AllocError>
+    ensures { IfOk result (λ r. r ≡ spec.sorted_recipe recipe) }
 {
     let Recipe {
         settings,
@@ -151,12 +152,13 @@ fn with_packed(recipe: Recipe, word: PackedWord) -> Result<Recipe, AllocError>
         versions,
         symbols,
         relocations,
-        packed: insert(packed, word)?,
+        packed: in_order(packed)?,
     })
 }
 
+/// One line more; a packed word stands behind all others.
 fn add(alloc: Global, recipe: Recipe, line: &Line) -> Result<Recipe, AllocError>
-    ensures { IfOk result (λ r. r ≡ spec.added recipe line.now) }
+    ensures { IfOk result (λ r. r ≡ spec.pushed recipe line.now) }
 {
     let mut recipe = recipe;
     match line {
@@ -182,7 +184,10 @@ fn add(alloc: Global, recipe: Recipe, line: &Line) -> Result<Recipe, AllocError>
                 .push(copy_relocation(alloc, relocation)?)?;
             Ok(recipe)
         }
-        Line::Packs(word) => with_packed(recipe, *word),
+        Line::Packs(word) => {
+            recipe.packed.push(*word)?;
+            Ok(recipe)
+        }
         _ => {
             recipe.settings = set(recipe.settings, line);
             Ok(recipe)
@@ -190,8 +195,7 @@ fn add(alloc: Global, recipe: Recipe, line: &Line) -> Result<Recipe, AllocError>
     }
 }
 
-/// All lines together.
-#[tactic(auto, unfolding(crate::specs::Recipe::gathered))]
+/// All lines together. The time grows as `n log n`.
 pub fn gather(alloc: Global, lines: &[Line]) -> Result<Recipe, AllocError>
     ensures { IfOk result (λ r. r ≡ spec.gathered lines.now) }
 {
@@ -199,5 +203,6 @@ pub fn gather(alloc: Global, lines: &[Line]) -> Result<Recipe, AllocError>
     for line in lines {
         recipe = add(alloc, recipe, line)?;
     }
-    Ok(recipe)
+    let whole = sorted_recipe(recipe)?;
+    Ok(whole)
 }

@@ -1,12 +1,12 @@
 // The tables of relocations.
-ghost use Rattle.std.specs.Prelude.{◌≡◌, IfOk, map, filter, position};
+ghost use Rattle.std.specs.Prelude.{◌≡◌, IfOk, map, filter};
 ghost use Rattle.pl_build.specs.LayoutPlan.{is_jump_slot, is_other};
 ghost use Rattle.pl_build.specs.Relocations as spec;
 
 use crate::fields::{Field, Row, push_fields, push_rows};
-use crate::layout_plan::{LayoutPlan, data_address, is_jump_slot};
-use crate::line::{Relocation, SymbolLine};
-use crate::names::is;
+use crate::indexed_plan::IndexedPlan;
+use crate::layout_plan::{data_address, is_jump_slot};
+use crate::line::Relocation;
 use crate::packed::addend_of;
 use crate::relocation_lines::is_no_symbol;
 use pl_elf::constants::R_X86_64_RELATIVE;
@@ -43,55 +43,47 @@ impl Row for Rela {
     }
 }
 
-fn position_of(symbols: &[SymbolLine], name: &[u8]) -> Option<usize>
-    ensures { result ≡ position (spec.is_written_as name.now) symbols.now }
-{
-    symbols
-        .iter()
-        .position(|symbol| is(symbol.written.as_slice(), name))
-}
-
 #[tactic(auto, unfolding(crate::specs::Relocations::symbol_number))]
-fn symbol_number(plan: &LayoutPlan, name: &[u8]) -> u64
+fn symbol_number(plan: &IndexedPlan<'_>, name: &[u8]) -> u64
     ensures { result ≡ spec.symbol_number plan.now name.now }
 {
     if is_no_symbol(name) {
         return 0;
     }
-    match position_of(plan.symbols.as_slice(), name) {
+    match plan.symbol_position(name) {
         Some(index) => (index as u64).wrapping_add(1),
         None => 0,
     }
 }
 
 #[tactic(auto, unfolding(crate::specs::Relocations::moved_addend))]
-fn moved_addend(plan: &LayoutPlan, relocation: &Relocation) -> u64
+fn moved_addend(plan: &IndexedPlan<'_>, relocation: &Relocation) -> u64
     ensures { result ≡ spec.moved_addend plan.now relocation.now }
 {
     if relocation.kind == R_X86_64_RELATIVE {
-        data_address(&plan.settings).wrapping_add(addend_of(relocation.addend))
+        data_address(&plan.layout().settings).wrapping_add(addend_of(relocation.addend))
     } else {
         addend_of(relocation.addend)
     }
 }
 
 #[tactic(auto, unfolding(crate::specs::Relocations::rela_of))]
-fn rela_of(plan: &LayoutPlan, relocation: &Relocation) -> Rela
+fn rela_of(plan: &IndexedPlan<'_>, relocation: &Relocation) -> Rela
     ensures { result ≡ spec.rela_of plan.now relocation.now }
 {
     Rela {
-        offset: data_address(&plan.settings).wrapping_add(relocation.offset),
+        offset: data_address(&plan.layout().settings).wrapping_add(relocation.offset),
         kind: relocation.kind,
         symbol: symbol_number(plan, relocation.name.as_slice()),
         addend: moved_addend(plan, relocation),
     }
 }
 
-fn jump_slot_rows(alloc: Global, plan: &LayoutPlan) -> Result<Vec<Rela>, AllocError>
+fn jump_slot_rows(alloc: Global, plan: &IndexedPlan<'_>) -> Result<Vec<Rela>, AllocError>
     ensures { IfOk result (λ v. v.items ≡ map (spec.rela_of plan.now)
         (filter is_jump_slot plan.now.relocations)) }
 {
-    let relocations = plan.relocations.as_slice();
+    let relocations = plan.layout().relocations.as_slice();
     relocations
         .iter()
         .filter(|r| is_jump_slot(r))
@@ -99,11 +91,11 @@ fn jump_slot_rows(alloc: Global, plan: &LayoutPlan) -> Result<Vec<Rela>, AllocEr
         .collect(alloc)
 }
 
-fn other_rows(alloc: Global, plan: &LayoutPlan) -> Result<Vec<Rela>, AllocError>
+fn other_rows(alloc: Global, plan: &IndexedPlan<'_>) -> Result<Vec<Rela>, AllocError>
     ensures { IfOk result (λ v. v.items ≡ map (spec.rela_of plan.now)
         (filter is_other plan.now.relocations)) }
 {
-    let relocations = plan.relocations.as_slice();
+    let relocations = plan.layout().relocations.as_slice();
     relocations
         .iter()
         .filter(|r| !is_jump_slot(r))
@@ -113,7 +105,7 @@ fn other_rows(alloc: Global, plan: &LayoutPlan) -> Result<Vec<Rela>, AllocError>
 
 /// The bytes of `.rela.plt`: the relocations of jump slots.
 #[tactic(auto, unfolding(crate::specs::Relocations::jump_slots))]
-pub fn jump_slots(alloc: Global, plan: &LayoutPlan) -> Result<Vec<u8>, AllocError>
+pub fn jump_slots(alloc: Global, plan: &IndexedPlan<'_>) -> Result<Vec<u8>, AllocError>
     ensures { IfOk result (λ v. v.items ≡ spec.jump_slots plan.now) }
 {
     let mut out = Vec::new(alloc);
@@ -123,7 +115,7 @@ pub fn jump_slots(alloc: Global, plan: &LayoutPlan) -> Result<Vec<u8>, AllocErro
 
 /// The bytes of `.rela.dyn`: all other relocations.
 #[tactic(auto, unfolding(crate::specs::Relocations::others))]
-pub fn others(alloc: Global, plan: &LayoutPlan) -> Result<Vec<u8>, AllocError>
+pub fn others(alloc: Global, plan: &IndexedPlan<'_>) -> Result<Vec<u8>, AllocError>
     ensures { IfOk result (λ v. v.items ≡ spec.others plan.now) }
 {
     let mut out = Vec::new(alloc);

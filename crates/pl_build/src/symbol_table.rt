@@ -3,10 +3,10 @@ ghost use Rattle.std.specs.Prelude.{◌≡◌, IfOk, map};
 ghost use Rattle.pl_build.specs.SymbolTable as spec;
 
 use crate::fields::{Field, Row, push_fields, push_rows};
-use crate::layout_plan::{LayoutPlan, data_address};
+use crate::indexed_plan::IndexedPlan;
+use crate::layout_plan::data_address;
 use crate::line::SymbolLine;
 use crate::roles::index_of;
-use crate::string_table::text_at;
 use pl_sym::constants::{SHN_ABS, SHN_UNDEF, STT_NOTYPE, STT_TLS};
 use std::alloc::{AllocError, Global};
 
@@ -59,22 +59,22 @@ fn has_no_address(symbol: &SymbolLine) -> bool
 }
 
 #[tactic(auto, unfolding(crate::specs::SymbolTable::section_of))]
-fn section_of(plan: &LayoutPlan, symbol: &SymbolLine) -> u64
+fn section_of(plan: &IndexedPlan<'_>, symbol: &SymbolLine) -> u64
     ensures { result ≡ spec.section_of plan.now symbol.now }
 {
     if !symbol.defined {
         u64::from(SHN_UNDEF)
     } else if symbol.kind == STT_NOTYPE {
         u64::from(SHN_ABS)
-    } else if symbol.kind == STT_TLS || symbol.offset < plan.settings.data_size {
-        index_of(plan.roles.as_slice(), b".data") as u64
+    } else if symbol.kind == STT_TLS || symbol.offset < plan.layout().settings.data_size {
+        index_of(plan.layout().roles.as_slice(), b".data") as u64
     } else {
-        index_of(plan.roles.as_slice(), b".bss") as u64
+        index_of(plan.layout().roles.as_slice(), b".bss") as u64
     }
 }
 
 #[tactic(auto, unfolding(crate::specs::SymbolTable::value_of))]
-fn value_of(plan: &LayoutPlan, symbol: &SymbolLine) -> u64
+fn value_of(plan: &IndexedPlan<'_>, symbol: &SymbolLine) -> u64
     ensures { result ≡ spec.value_of plan.now symbol.now }
 {
     if !symbol.placed {
@@ -82,16 +82,16 @@ fn value_of(plan: &LayoutPlan, symbol: &SymbolLine) -> u64
     } else if has_no_address(symbol) {
         symbol.offset
     } else {
-        data_address(&plan.settings).wrapping_add(symbol.offset)
+        data_address(&plan.layout().settings).wrapping_add(symbol.offset)
     }
 }
 
 #[tactic(auto, unfolding(crate::specs::SymbolTable::entry_of))]
-fn entry_of(plan: &LayoutPlan, symbol: &SymbolLine) -> SymbolEntry
+fn entry_of(plan: &IndexedPlan<'_>, symbol: &SymbolLine) -> SymbolEntry
     ensures { result ≡ spec.entry_of plan.now symbol.now }
 {
     SymbolEntry {
-        name: text_at(&plan.strings, symbol.name.as_slice()),
+        name: plan.text_at(symbol.name.as_slice()),
         bind: symbol.bind,
         kind: symbol.kind,
         visibility: symbol.visibility,
@@ -101,10 +101,11 @@ fn entry_of(plan: &LayoutPlan, symbol: &SymbolLine) -> SymbolEntry
     }
 }
 
-fn entries(alloc: Global, plan: &LayoutPlan) -> Result<Vec<SymbolEntry>, AllocError>
+fn entries(alloc: Global, plan: &IndexedPlan<'_>) -> Result<Vec<SymbolEntry>, AllocError>
     ensures { IfOk result (λ v. v.items ≡ map (spec.entry_of plan.now) plan.now.symbols) }
 {
-    plan.symbols
+    plan.layout()
+        .symbols
         .as_slice()
         .iter()
         .map(|symbol| entry_of(plan, symbol))
@@ -113,7 +114,7 @@ fn entries(alloc: Global, plan: &LayoutPlan) -> Result<Vec<SymbolEntry>, AllocEr
 
 /// The bytes of the symbol table: the null symbol, then all others.
 #[tactic(auto, unfolding(crate::specs::SymbolTable::symbol_table))]
-pub fn symbol_table(alloc: Global, plan: &LayoutPlan) -> Result<Vec<u8>, AllocError>
+pub fn symbol_table(alloc: Global, plan: &IndexedPlan<'_>) -> Result<Vec<u8>, AllocError>
     ensures { IfOk result (λ v. v.items ≡ spec.symbol_table plan.now) }
 {
     let mut out = Vec::new(alloc);

@@ -1,16 +1,13 @@
 // The tables of symbol versions.
 ghost use Rattle.std.specs.Prelude.{◌≡◌, ◌++◌, ◌+◌, ◌<◌, ◌≤◌, IfOk, OnOk, map, length, position};
 ghost use Rattle.std.specs.List.{flat_map, list_any, range_with_len};
-ghost use Rattle.std.specs.Str.{bytes_eq};
 ghost use Rattle.pl_build.specs.Needed.{is_of, is_need_of};
 ghost use Rattle.pl_build.specs.Versions as spec;
 
 use crate::fields::{Field, push_fields};
-use crate::layout_plan::LayoutPlan;
+use crate::indexed_plan::IndexedPlan;
 use crate::line::SymbolLine;
-use crate::names::is;
 use crate::needed::{Need, is_need_of, is_of};
-use crate::string_table::text_at;
 use crate::words::word;
 use pl_base::Rows;
 use pl_hash::sysv_hash;
@@ -23,23 +20,19 @@ use std::alloc::{AllocError, Global};
 const FIRST_DEFINED: usize = VER_NDX_GLOBAL as usize + 1;
 
 #[tactic(auto, unfolding(crate::specs::Versions::first_needed))]
-fn first_needed(plan: &LayoutPlan) -> usize
+fn first_needed(plan: &IndexedPlan<'_>) -> usize
     ensures { result ≡ spec.first_needed plan.now }
 {
-    FIRST_DEFINED + plan.versions.as_slice().len()
-}
-
-fn position_of_version(versions: &[Rows<u8>], symbol: &SymbolLine) -> Option<usize>
-    ensures { result ≡ position (λ v. bytes_eq v symbol.now.version) versions.now }
-{
-    versions.iter().position(|version| is(version.as_slice(), symbol.version.as_slice()))
+    FIRST_DEFINED + plan.layout().versions.as_slice().len()
 }
 
 #[tactic(auto, unfolding(crate::specs::Versions::defined_index))]
-fn defined_index(plan: &LayoutPlan, symbol: &SymbolLine) -> usize
+fn defined_index(plan: &IndexedPlan<'_>, symbol: &SymbolLine) -> usize
     ensures { result ≡ spec.defined_index plan.now symbol.now }
 {
-    let index = position_of_version(plan.versions.as_slice(), symbol).unwrap_or(0);
+    let index = plan
+        .version_position(symbol.version.as_slice())
+        .unwrap_or(0);
     FIRST_DEFINED.wrapping_add(index)
 }
 
@@ -50,15 +43,15 @@ fn position_of_need(needs: &[Need], symbol: &SymbolLine) -> Option<usize>
 }
 
 #[tactic(auto, unfolding(crate::specs::Versions::needed_index))]
-fn needed_index(plan: &LayoutPlan, symbol: &SymbolLine) -> usize
+fn needed_index(plan: &IndexedPlan<'_>, symbol: &SymbolLine) -> usize
     ensures { result ≡ spec.needed_index plan.now symbol.now }
 {
-    let index = position_of_need(plan.needs.as_slice(), symbol).unwrap_or(0);
+    let index = position_of_need(plan.layout().needs.as_slice(), symbol).unwrap_or(0);
     first_needed(plan).wrapping_add(index)
 }
 
 #[tactic(auto, unfolding(crate::specs::Versions::version_word))]
-fn version_word(plan: &LayoutPlan, symbol: &SymbolLine) -> u64
+fn version_word(plan: &IndexedPlan<'_>, symbol: &SymbolLine) -> u64
     ensures { result ≡ spec.version_word plan.now symbol.now }
 {
     if symbol.version.len() == 0 {
@@ -72,11 +65,12 @@ fn version_word(plan: &LayoutPlan, symbol: &SymbolLine) -> u64
     }
 }
 
-fn word_fields(alloc: Global, plan: &LayoutPlan) -> Result<Vec<Field>, AllocError>
+fn word_fields(alloc: Global, plan: &IndexedPlan<'_>) -> Result<Vec<Field>, AllocError>
     ensures { IfOk result (λ v. v.items ≡ map (λ s. Field.Half (spec.version_word plan.now s))
         plan.now.symbols) }
 {
-    plan.symbols
+    plan.layout()
+        .symbols
         .as_slice()
         .iter()
         .map(|symbol| Field::Half(version_word(plan, symbol)))
@@ -85,7 +79,7 @@ fn word_fields(alloc: Global, plan: &LayoutPlan) -> Result<Vec<Field>, AllocErro
 
 /// The bytes of `.gnu.version`: the version word of each symbol.
 #[tactic(auto, unfolding(crate::specs::Versions::version_words))]
-pub fn version_words(alloc: Global, plan: &LayoutPlan) -> Result<Vec<u8>, AllocError>
+pub fn version_words(alloc: Global, plan: &IndexedPlan<'_>) -> Result<Vec<u8>, AllocError>
     ensures { IfOk result (λ v. v.items ≡ spec.version_words plan.now) }
 {
     let mut out = Vec::new(alloc);
@@ -97,7 +91,7 @@ pub fn version_words(alloc: Global, plan: &LayoutPlan) -> Result<Vec<u8>, AllocE
 #[tactic(auto, unfolding(crate::specs::Versions::verdef_bytes))]
 fn push_verdef(
     out: &mut Vec<u8>,
-    plan: &LayoutPlan,
+    plan: &IndexedPlan<'_>,
     flags: u64,
     index: u64,
     name: &[u8],
@@ -118,16 +112,16 @@ fn push_verdef(
             Field::Word(next),
         ],
     )?;
-    let name_at = text_at(&plan.strings, name);
+    let name_at = plan.text_at(name);
     push_fields(out, &[Field::Word(name_at), Field::Word(0)])
 }
 
 #[tactic(auto, unfolding(crate::specs::Versions::next_verdef))]
-fn next_verdef(plan: &LayoutPlan, index: usize) -> u64
+fn next_verdef(plan: &IndexedPlan<'_>, index: usize) -> u64
     requires { index < length plan.now.versions }
     ensures { result ≡ spec.next_verdef plan.now index }
 {
-    let count = plan.versions.as_slice().len();
+    let count = plan.layout().versions.as_slice().len();
     if index + 1 == count {
         0
     } else {
@@ -136,20 +130,20 @@ fn next_verdef(plan: &LayoutPlan, index: usize) -> u64
 }
 
 #[tactic(auto, unfolding(crate::specs::Versions::verdef_at))]
-fn push_verdef_at(out: &mut Vec<u8>, plan: &LayoutPlan, index: usize) -> Result<(), AllocError>
+fn push_verdef_at(out: &mut Vec<u8>, plan: &IndexedPlan<'_>, index: usize) -> Result<(), AllocError>
     requires { index < length plan.now.versions }
     ensures { OnOk result (out.new.items ≡ out.old.items ++ spec.verdef_at plan.now index) }
 {
-    let name = word(plan.versions.as_slice(), index);
+    let name = word(plan.layout().versions.as_slice(), index);
     let next = next_verdef(plan, index);
     push_verdef(out, plan, 0, (FIRST_DEFINED + index) as u64, name, next)
 }
 
-fn push_verdefs(out: &mut Vec<u8>, plan: &LayoutPlan) -> Result<(), AllocError>
+fn push_verdefs(out: &mut Vec<u8>, plan: &IndexedPlan<'_>) -> Result<(), AllocError>
     ensures { OnOk result (out.new.items ≡ out.old.items
         ++ flat_map (spec.verdef_at plan.now) (range_with_len 0 (length plan.now.versions))) }
 {
-    let count = plan.versions.len();
+    let count = plan.layout().versions.len();
     for index in 0..count {
         push_verdef_at(out, plan, index)?;
     }
@@ -158,7 +152,7 @@ fn push_verdefs(out: &mut Vec<u8>, plan: &LayoutPlan) -> Result<(), AllocError>
 
 /// The bytes of `.gnu.version_d`: the versions that are defined.
 #[tactic(auto, unfolding(crate::specs::Versions::verdefs))]
-pub fn verdefs(alloc: Global, plan: &LayoutPlan) -> Result<Vec<u8>, AllocError>
+pub fn verdefs(alloc: Global, plan: &IndexedPlan<'_>) -> Result<Vec<u8>, AllocError>
     ensures { IfOk result (λ v. v.items ≡ spec.verdefs plan.now) }
 {
     let mut out = Vec::new(alloc);
@@ -194,7 +188,7 @@ fn next_vernaux(later: &[Need], need: &Need) -> u64
 #[tactic(auto, unfolding(crate::specs::Versions::vernaux_bytes))]
 fn push_vernaux(
     out: &mut Vec<u8>,
-    plan: &LayoutPlan,
+    plan: &IndexedPlan<'_>,
     index: usize,
     need: &Need,
 ) -> Result<(), AllocError>
@@ -203,14 +197,14 @@ fn push_vernaux(
         ++ spec.vernaux_bytes plan.now index need.now) }
 {
     let version = need.version.as_slice();
-    let later = &plan.needs.as_slice()[index + 1..];
+    let later = &plan.layout().needs.as_slice()[index + 1..];
     push_fields(
         out,
         &[
             Field::Word(u64::from(sysv_hash(version))),
             Field::Half(0),
             Field::Half(first_needed(plan).wrapping_add(index) as u64),
-            Field::Word(text_at(&plan.strings, version)),
+            Field::Word(plan.text_at(version)),
             Field::Word(next_vernaux(later, need)),
         ],
     )
@@ -219,7 +213,7 @@ fn push_vernaux(
 #[tactic(auto, using(crate::proofs::LoopLaws::with_none), unfolding(crate::specs::Versions::vernaux_of))]
 fn push_vernaux_of(
     out: &mut Vec<u8>,
-    plan: &LayoutPlan,
+    plan: &IndexedPlan<'_>,
     file: &[u8],
     index: usize,
     need: &Need,
@@ -237,7 +231,7 @@ fn push_vernaux_of(
 #[tactic(auto, using(crate::proofs::LoopLaws::with_none), unfolding(crate::specs::Versions::vernaux_at))]
 fn push_vernaux_at(
     out: &mut Vec<u8>,
-    plan: &LayoutPlan,
+    plan: &IndexedPlan<'_>,
     file: &[u8],
     index: usize,
 ) -> Result<(), AllocError>
@@ -245,18 +239,18 @@ fn push_vernaux_at(
     ensures { OnOk result (out.new.items ≡ out.old.items
         ++ spec.vernaux_at plan.now file.now index) }
 {
-    match plan.needs.as_slice().get(index) {
+    match plan.layout().needs.as_slice().get(index) {
         Some(need) => push_vernaux_of(out, plan, file, index, need),
         None => Ok(()),
     }
 }
 
-fn push_vernauxes(out: &mut Vec<u8>, plan: &LayoutPlan, file: &[u8]) -> Result<(), AllocError>
+fn push_vernauxes(out: &mut Vec<u8>, plan: &IndexedPlan<'_>, file: &[u8]) -> Result<(), AllocError>
     ensures { OnOk result (out.new.items ≡ out.old.items
         ++ flat_map (spec.vernaux_at plan.now file.now)
         (range_with_len 0 (length plan.now.needs))) }
 {
-    let count = plan.needs.len();
+    let count = plan.layout().needs.len();
     for index in 0..count {
         push_vernaux_at(out, plan, file, index)?;
     }
@@ -264,11 +258,12 @@ fn push_vernauxes(out: &mut Vec<u8>, plan: &LayoutPlan, file: &[u8]) -> Result<(
 }
 
 #[tactic(auto, unfolding(crate::specs::Versions::count_of))]
-fn count_of(plan: &LayoutPlan, file: &[u8]) -> usize
+fn count_of(plan: &IndexedPlan<'_>, file: &[u8]) -> usize
     ensures value { result ≡ spec.count_of plan.now file.now }
     ensures within { result ≤ length plan.now.needs }
 {
-    plan.needs
+    plan.layout()
+        .needs
         .as_slice()
         .iter()
         .filter(|need| is_of(file, need))
@@ -285,31 +280,31 @@ fn rows_end(count: u64) -> u64
 }
 
 #[tactic(auto, unfolding(crate::specs::Versions::next_verneed))]
-fn next_verneed(plan: &LayoutPlan, index: usize) -> u64
+fn next_verneed(plan: &IndexedPlan<'_>, index: usize) -> u64
     requires { index < length plan.now.files }
     ensures { result ≡ spec.next_verneed plan.now index }
 {
-    let files = plan.files.as_slice().len();
+    let files = plan.layout().files.as_slice().len();
     if index + 1 == files {
         0
     } else {
-        let count = count_of(plan, word(plan.files.as_slice(), index));
+        let count = count_of(plan, word(plan.layout().files.as_slice(), index));
         rows_end(count as u64)
     }
 }
 
 #[tactic(auto, unfolding(crate::specs::Versions::verneed_bytes))]
-fn push_verneed(out: &mut Vec<u8>, plan: &LayoutPlan, index: usize) -> Result<(), AllocError>
+fn push_verneed(out: &mut Vec<u8>, plan: &IndexedPlan<'_>, index: usize) -> Result<(), AllocError>
     requires { index < length plan.now.files }
     ensures { OnOk result (out.new.items ≡ out.old.items ++ spec.verneed_bytes plan.now index) }
 {
-    let file = word(plan.files.as_slice(), index);
+    let file = word(plan.layout().files.as_slice(), index);
     push_fields(
         out,
         &[
             Field::Half(1),
             Field::Half(count_of(plan, file) as u64),
-            Field::Word(text_at(&plan.strings, file)),
+            Field::Word(plan.text_at(file)),
             Field::Word(VERNEED_SIZE as u64),
             Field::Word(next_verneed(plan, index)),
         ],
@@ -317,19 +312,23 @@ fn push_verneed(out: &mut Vec<u8>, plan: &LayoutPlan, index: usize) -> Result<()
 }
 
 #[tactic(auto, unfolding(crate::specs::Versions::verneed_at))]
-fn push_verneed_at(out: &mut Vec<u8>, plan: &LayoutPlan, index: usize) -> Result<(), AllocError>
+fn push_verneed_at(
+    out: &mut Vec<u8>,
+    plan: &IndexedPlan<'_>,
+    index: usize,
+) -> Result<(), AllocError>
     requires { index < length plan.now.files }
     ensures { OnOk result (out.new.items ≡ out.old.items ++ spec.verneed_at plan.now index) }
 {
     push_verneed(out, plan, index)?;
-    push_vernauxes(out, plan, word(plan.files.as_slice(), index))
+    push_vernauxes(out, plan, word(plan.layout().files.as_slice(), index))
 }
 
-fn push_verneeds(out: &mut Vec<u8>, plan: &LayoutPlan) -> Result<(), AllocError>
+fn push_verneeds(out: &mut Vec<u8>, plan: &IndexedPlan<'_>) -> Result<(), AllocError>
     ensures { OnOk result (out.new.items ≡ out.old.items
         ++ flat_map (spec.verneed_at plan.now) (range_with_len 0 (length plan.now.files))) }
 {
-    let count = plan.files.len();
+    let count = plan.layout().files.len();
     for index in 0..count {
         push_verneed_at(out, plan, index)?;
     }
@@ -338,7 +337,7 @@ fn push_verneeds(out: &mut Vec<u8>, plan: &LayoutPlan) -> Result<(), AllocError>
 
 /// The bytes of `.gnu.version_r`: the versions that are needed.
 #[tactic(auto, unfolding(crate::specs::Versions::verneeds))]
-pub fn verneeds(alloc: Global, plan: &LayoutPlan) -> Result<Vec<u8>, AllocError>
+pub fn verneeds(alloc: Global, plan: &IndexedPlan<'_>) -> Result<Vec<u8>, AllocError>
     ensures { IfOk result (λ v. v.items ≡ spec.verneeds plan.now) }
 {
     let mut out = Vec::new(alloc);

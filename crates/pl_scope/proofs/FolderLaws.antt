@@ -17,14 +17,17 @@ use Rattle.pl_hash.specs.Hash.{gnu}
 use Rattle.pl_elf.specs.Kinds.{is_program}
 use Rattle.pl_object.specs.declared.object.Object.{Object}
 use Rattle.pl_scope.specs.Finds.{in_member, first_in, from_member}
-use Rattle.pl_scope.specs.Index.{entry_of, entries_of, is_entry, IsBest}
+use Rattle.pl_scope.specs.Index.{entry_of, entries_of, is_entry}
+use Rattle.pl_scope.specs.ScopeIndex.{IsBest}
 use Rattle.pl_scope.specs.Folder.{entries_at, all_from, all_entries, order_of, is_same, AreSmallRows, IsFolderIndex, position_of, position_in, placed, IsIndexAmong, best_at}
 use Rattle.pl_scope.specs.declared.folder.Among.{Among}
+use Rattle.pl_scope.specs.declared.entries.Entry.{Entry as Placed}
 use Rattle.pl_scope.specs.declared.index.Entry.{Entry}
 use Rattle.pl_scope.specs.declared.found.Found.{Found}
 use Rattle.pl_scope.specs.declared.wanted.Wanted.{Wanted}
 use Rattle.pl_scope.proofs.FoundLaws.{member_defines}
-use Rattle.pl_scope.proofs.IndexLaws.{best_push, best_is, made_within}
+use Rattle.pl_scope.proofs.IndexLaws.{made_within}
+use Rattle.pl_scope.proofs.ScopeIndexLaws.{best_push, best_is}
 
 -- ---- the definers of all objects
 
@@ -133,21 +136,21 @@ folder_index os all sorted once is same dropped hash row =
 -- ---- a search among the members of a scope
 
 module _ (os : List Object) (w : Wanted) (start : ℕ) (positions : List (Option ℕ)) where
-  abbrev IsBestOf : List Entry → Option Found → Type 0
+  abbrev IsBestOf : List Placed → Option Found → Type 0
   IsBestOf asked best = IsBest os w.name.now w.class (option_map (λ x. x.now) w.version) start asked best
 
-  one_placed : (e : Entry) (x : Option ℕ) → position_of positions e ≡ x → filter_map (placed positions) (e ∷ []) ≡ option_to_list (option_map (λ m. record { hash = e.hash; member = m }) x)
+  one_placed : (e : Entry) (x : Option ℕ) → position_of positions e ≡ x → filter_map (placed positions) (e ∷ []) ≡ option_to_list (option_map (λ m. record { key = e.hash; value = m }) x)
   one_placed e None is = rw is refl
   one_placed e (Some m) is = rw is refl
 
-  among_step : (asked : List Entry) (e : Entry) (best new : Option Found) (x : Option ℕ) → position_of positions e ≡ x → IsBestOf asked best → new ≡ best_at os w start best x
+  among_step : (asked : List Placed) (e : Entry) (best new : Option Found) (x : Option ℕ) → position_of positions e ≡ x → IsBestOf asked best → new ≡ best_at os w start best x
       → IsBestOf (asked ++ filter_map (placed positions) (e ∷ [])) new
   among_step asked e best new None is so_far made =
-      subst (λ (more : List Entry). IsBestOf (asked ++ more) new) (sym (one_placed e None is))
-      (subst (λ (all : List Entry). IsBestOf all new) (sym (append-nil asked)) (subst (λ (f : Option Found). IsBestOf asked f) (sym made) so_far))
+      subst (λ (more : List Placed). IsBestOf (asked ++ more) new) (sym (one_placed e None is))
+      (subst (λ (all : List Placed). IsBestOf all new) (sym (append-nil asked)) (subst (λ (f : Option Found). IsBestOf asked f) (sym made) so_far))
   among_step asked e best new (Some m) is so_far made =
-      subst (λ (more : List Entry). IsBestOf (asked ++ more) new) (sym (one_placed e (Some m) is))
-      (best_push os w.name.now w.class (option_map (λ x. x.now) w.version) start asked (record { hash = e.hash; member = m }) best new so_far made)
+      subst (λ (more : List Placed). IsBestOf (asked ++ more) new) (sym (one_placed e (Some m) is))
+      (best_push os w.name.now w.class (option_map (λ x. x.now) w.version) start asked (record { key = e.hash; value = m }) best new so_far made)
 
   -- one entry more
   pub among_more : (items : List Entry) (i : ℕ) (d : Entry) (best new : Option Found) (x : Option ℕ) → i < length items → IsBestOf (filter_map (placed positions) (take i items)) best
@@ -156,11 +159,11 @@ module _ (os : List Object) (w : Wanted) (start : ℕ) (positions : List (Option
       let e = get_or items i d in
       let more : filter_map (placed positions) (take (i + 1) items) ≡ filter_map (placed positions) (take i items) ++ filter_map (placed positions) (e ∷ []) =
       ap (filter_map (placed positions)) (take_more items i d lt) ∙ filter_map-append (placed positions) (take i items) (e ∷ []) in
-      subst (λ (asked : List Entry). IsBestOf asked new) (sym more) (among_step (filter_map (placed positions) (take i items)) e best new x (sym at) so_far made)
+      subst (λ (asked : List Placed). IsBestOf asked new) (sym more) (among_step (filter_map (placed positions) (take i items)) e best new x (sym at) so_far made)
 
   -- all entries
   pub among_done : (items : List Entry) (i count : ℕ) (best : Option Found) → length items ≤ i → count ≡ length os → IsBestOf (filter_map (placed positions) (take i items)) best
-      → ((m : ℕ) (f : Found) → in_member os w.name.now w.class (option_map (λ x. x.now) w.version) m ≡ Some f → list_any (λ e. e.member == m) (filter_map (placed positions) items) ≡ true)
+      → ((m : ℕ) (f : Found) → in_member os w.name.now w.class (option_map (λ x. x.now) w.version) m ≡ Some f → list_any (λ e. e.value == m) (filter_map (placed positions) items) ≡ true)
       → best ≡ first_in os w.name.now w.class (option_map (λ x. x.now) w.version) (from_member start count)
   among_done items i count best le all is whole =
       rw all (best_is os w.name.now w.class (option_map (λ x. x.now) w.version) start (filter_map (placed positions) items) best
@@ -168,10 +171,10 @@ module _ (os : List Object) (w : Wanted) (start : ℕ) (positions : List (Option
 
 -- each member with a definer of the name is under its hash
 pub among_whole : (os : List Object) (among : Among) (name : List ℕ) (class : Class) (version : Option (List ℕ)) (m : ℕ) (f : Found) → IsIndexAmong os among → in_member os name class version m ≡ Some f
-    → list_any (λ e. e.member == m) (filter_map (placed among.positions.now) (entries_of among.index.now (gnu name))) ≡ true
+    → list_any (λ e. e.value == m) (filter_map (placed among.positions.now) (entries_of among.index.now (gnu name))) ≡ true
 among_whole os among name class version m f is e =
     let d = member_defines os name class version m f e in
-    subst (λ (n : List ℕ). list_any (λ (x : Entry). x.member == m) (filter_map (placed among.positions.now) (entries_of among.index.now (gnu n))) ≡ true) d.named (is.whole m d.index d.object d.symbol d.object_at d.symbol_at d.defines)
+    subst (λ (n : List ℕ). list_any (λ (x : Placed). x.value == m) (filter_map (placed among.positions.now) (entries_of among.index.now (gnu n))) ≡ true) d.named (is.whole m d.index d.object d.symbol d.object_at d.symbol_at d.defines)
 
 -- where a row stands is a member of the scope
 pub within_by : (os : List Object) (among : Among) (row m : ℕ) (x : Option ℕ) → IsIndexAmong os among → x ≡ position_in (slice_get among.positions.now row) → x ≡ Some m → m < length os

@@ -5,11 +5,12 @@ use Rattle.std.specs.List.{list_any}
 use Rattle.std.proofs.lemmas.Bool.{cases_Bool, false≢true, ltb-true, ltb-false, eqb-true, eq-eqb, ne_eqb, or_cases, or_left, or_right, and_parts}
 use Rattle.std.proofs.lemmas.Slice.Eq.{bytes_eq-Decides}
 use Rattle.pl_sym.specs.declared.symbol.Symbol.{Symbol}
+use Rattle.pl_sym.specs.declared.class.Class.{Class}
 use Rattle.pl_sym.specs.declared.class.Class.TheVariants.{Jump}
 use Rattle.pl_hash.specs.ChainSymbols.{name_hash, is_chain_symbol}
 use Rattle.pl_object.specs.declared.object.Object.{Object}
 use Rattle.pl_scope.specs.Matching.{defines, counts, only}
-use Rattle.pl_scope.specs.Probing.{taken, picked, passes, passes_at, IsProbe, led_to, picks, lesser, least_from, another}
+use Rattle.pl_scope.specs.Probing.{taken, passes, passes_at, IsProbe, led_to, picks, lesser, least_from, another}
 use Rattle.pl_scope.specs.declared.probe.Pick.{Pick}
 use Rattle.pl_scope.specs.declared.probe.Pick.TheVariants.{Version, Plain, Index, Each, Shown}
 use Rattle.pl_scope.specs.declared.probe.Probe.{Probe}
@@ -17,14 +18,6 @@ use Rattle.pl_scope.proofs.PlaceLaws.{located, at_found, only_one, only_many}
 
 abbrev pub has : ℕ → List ℕ → Bool
 has index xs = list_any (λ x. x == index) xs
-
--- what a step takes of the definers for jump slots
-pub taken_is : (o : Object) (name : List ℕ) (pick : Pick) (s : Symbol) → taken o name Jump pick s ≡ picked o name pick s
-taken_is o name (Version version) s = refl
-taken_is o name Plain s = refl
-taken_is o name (Index index) s = refl
-taken_is o name Each s = refl
-taken_is o name Shown s = refl
 
 -- nothing before an index passes
 abbrev NoneBefore : (ℕ → Bool) → ℕ → Type 0
@@ -93,7 +86,7 @@ least_is p symbols xs complete =
 
 -- ---- another one
 
-any_found : (q : ℕ → Bool) (xs : List ℕ) → list_any q xs ≡ true → (i : ℕ) × (q i ≡ true)
+pub any_found : (q : ℕ → Bool) (xs : List ℕ) → list_any q xs ≡ true → (i : ℕ) × (q i ≡ true)
 any_found q [] e = absurd (false≢true e)
 any_found q (x ∷ xs) e =
     elim (or_cases (q x) (list_any q xs) e) [
@@ -109,10 +102,10 @@ any_listed q i (x ∷ xs) there holds =
       | inr later ↦ or_right (q x) (list_any q xs) (any_listed q i xs later holds)
     ]
 
-differs : (x i : ℕ) → not (x == i) ≡ true → i ≢ x
+pub differs : (x i : ℕ) → not (x == i) ≡ true → i ≢ x
 differs x i h e = absurd (false≢true (sym (ap not (eq-eqb x i (sym e))) ∙ h))
 
-no_other : (p : Symbol → Bool) (symbols : List Symbol) (xs : List ℕ) (i k : ℕ) → IsComplete p symbols xs → another (passes_at p symbols) i xs ≡ false → k ≢ i → passes_at p symbols k ≡ false
+pub no_other : (p : Symbol → Bool) (symbols : List Symbol) (xs : List ℕ) (i k : ℕ) → IsComplete p symbols xs → another (passes_at p symbols) i xs ≡ false → k ≢ i → passes_at p symbols k ≡ false
 no_other p symbols xs i k complete none ne =
     elim (cases_Bool (passes_at p symbols k)) [
       | inl holds ↦
@@ -135,27 +128,28 @@ only_is p symbols xs i false complete is one =
 
 -- ---- the steps of a probe
 
-pub defines_of : (o : Object) (name : List ℕ) (pick : Pick) (s : Symbol) → picked o name pick s ≡ true → defines o name Jump s ≡ true
+-- what a step takes defines the name
+pub defines_of : (o : Object) (name : List ℕ) (class : Class) (pick : Pick) (s : Symbol) → taken o name class pick s ≡ true → defines o name class s ≡ true
 unfolding counts
-defines_of o name (Version version) s e = (and_parts _ _ e).0
-defines_of o name Plain s e = (and_parts _ _ e).0
-defines_of o name (Index index) s e = (and_parts _ _ e).0
-defines_of o name Each s e = (and_parts _ _ e).0
-defines_of o name Shown s e = (and_parts _ _ e).0
+defines_of o name class (Version version) s e = (and_parts _ _ e).0
+defines_of o name class Plain s e = (and_parts _ _ e).0
+defines_of o name class (Index index) s e = (and_parts _ _ e).0
+defines_of o name class Each s e = (and_parts _ _ e).0
+defines_of o name class Shown s e = (and_parts _ _ e).0
 
-symbol_at : (p : Symbol → Bool) (x : Option Symbol) → passes p x ≡ true → (s : Symbol) × (x ≡ Some s) × (p s ≡ true)
+pub symbol_at : (p : Symbol → Bool) (x : Option Symbol) → passes p x ≡ true → (s : Symbol) × (x ≡ Some s) × (p s ≡ true)
 symbol_at p None e = absurd (false≢true e)
 symbol_at p (Some s) e = (s, refl, e)
 
-pub listed : (p : Probe) (pick : Pick) → IsProbe p → IsComplete (picked p.object.now p.name.now pick) p.object.now.symbols (led_to p)
+pub listed : (p : Probe) (pick : Pick) → IsProbe p → IsComplete (taken p.object.now p.name.now Jump pick) p.object.now.symbols (led_to p)
 unfolding defines
 listed p pick is i holds =
     let o = p.object.now in
-    let at = symbol_at (picked o p.name.now pick) (slice_get o.symbols i) holds in
-    let parts = and_parts _ _ (defines_of o p.name.now pick at.0 at.2) in
+    let at = symbol_at (taken o p.name.now Jump pick) (slice_get o.symbols i) holds in
+    let parts = and_parts _ _ (defines_of o p.name.now Jump pick at.0 at.2) in
     let named : at.0.name ≡ p.name.now = (bytes_eq-Decides at.0.name p.name.now).0 parts.1 in
     let hash : name_hash p.table.now at.0.name ≡ p.hash = ap (name_hash p.table.now) named ∙ sym is.hash in
     subst (λ (h : ℕ). is_chain_symbol p.table.now h i ≡ true) hash (is.table.complete i at.0 at.1 parts.0)
 
-pub first_is : (p : Probe) (pick : Pick) → IsProbe p → least_from (picks p pick) None (led_to p) ≡ position (picked p.object.now p.name.now pick) p.object.now.symbols
-first_is p pick is = least_is (picked p.object.now p.name.now pick) p.object.now.symbols (led_to p) (listed p pick is)
+pub first_is : (p : Probe) (pick : Pick) → IsProbe p → least_from (picks p pick) None (led_to p) ≡ position (taken p.object.now p.name.now Jump pick) p.object.now.symbols
+first_is p pick is = least_is (taken p.object.now p.name.now Jump pick) p.object.now.symbols (led_to p) (listed p pick is)

@@ -5,7 +5,9 @@ use Rattle.std.specs.Option.{option_map}
 use Rattle.pl_elf.specs.Kinds.{is_program}
 use Rattle.pl_hash.specs.Hash.{gnu}
 use Rattle.pl_object.specs.declared.object.Object.{Object}
-use Rattle.pl_scope.specs.Index.{IsIndex, best_of, entries_of, entry_of, is_entry}
+use Rattle.pl_scope.specs.Index.{entries_of, entry_of, is_entry}
+use Rattle.pl_scope.specs.ScopeIndex.{HasOwn, IsIndex, best_of}
+use Rattle.pl_scope.specs.declared.entries.Entry.{Entry as Placed}
 use Rattle.pl_scope.specs.declared.folder.Among.{Among}
 use Rattle.pl_scope.specs.declared.found.Found.{Found}
 use Rattle.pl_scope.specs.declared.index.Entry.{Entry}
@@ -61,15 +63,15 @@ position_in (Some member) = member
 abbrev pub position_of : List (Option ℕ) → Entry → Option ℕ
 position_of positions e = position_in (slice_get positions e.member)
 
--- an entry of the folder as one of the scope
-abbrev pub placed : List (Option ℕ) → Entry → Option Entry
-placed positions e = option_map (λ member. record { hash = e.hash; member = member }) (position_of positions e)
+-- an entry of the folder as one of the scope, under its hash
+abbrev pub placed : List (Option ℕ) → Entry → Option Placed
+placed positions e = option_map (λ member. record { key = e.hash; value = member }) (position_of positions e)
 
 -- rows stand at members, and each definer of each member has an entry under its name's hash whose row stands at that member
 pub record IsIndexAmong (objects : List Object) (among : Among) : Type 0 where
   pub within : (row member : ℕ) → position_in (slice_get among.positions.now row) ≡ Some member → member < length objects
   pub whole : (m i : ℕ) (o : Object) (s : Symbol) → slice_get objects m ≡ Some o → slice_get o.symbols i ≡ Some s → is_definer s Other (is_program o.kind) ≡ true
-      → list_any (λ e. e.member == m) (filter_map (placed among.positions.now) (entries_of among.index.now (gnu s.name))) ≡ true
+      → list_any (λ e. e.value == m) (filter_map (placed among.positions.now) (entries_of among.index.now (gnu s.name))) ≡ true
 
 -- what is found with one row more
 abbrev pub best_at : List Object → Wanted → ℕ → Option Found → Option ℕ → Option Found
@@ -82,3 +84,10 @@ IsWay objects InOrder = ⊤
 IsWay objects (Indexed index) = IsIndex objects index.now
 IsWay objects (ways.Among among) = IsIndexAmong objects among.now
 IsWay objects InLists = ⊤
+
+-- where an index of the scope is used it has what is a member's own
+abbrev pub IsWayAt : Way → ℕ → Object → Type 0
+IsWayAt InOrder member o = ⊤
+IsWayAt (Indexed index) member o = HasOwn index.now member o
+IsWayAt (ways.Among among) member o = ⊤
+IsWayAt InLists member o = ⊤

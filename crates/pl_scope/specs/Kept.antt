@@ -4,9 +4,9 @@ use Rattle.std.specs.Option.{ForSome, option_and_then}
 use Rattle.pl_elf.specs.declared.constants.TheConstants.{R_X86_64_COPY, R_X86_64_JUMP_SLOT}
 use Rattle.pl_object.specs.declared.object.Object.{Object}
 use Rattle.pl_scope.specs.Finds.{finds}
-use Rattle.pl_scope.specs.Index.{IsIndex}
+use Rattle.pl_scope.specs.ScopeIndex.{IsIndex}
 use Rattle.pl_scope.specs.declared.answers.Answers.{Answers}
-use Rattle.pl_scope.specs.declared.index.Entry.{Entry}
+use Rattle.pl_scope.specs.declared.scope_index.ScopeIndex.{ScopeIndex}
 use Rattle.pl_scope.specs.declared.found.Found.{Found}
 
 -- nothing was asked yet
@@ -41,7 +41,7 @@ pub record IsKept (objects : List Object) (rows : List (List Answers)) : Type 0 
 abbrev pub unasked_row : Object → List Answers
 unasked_row o = replicate (length o.symbols) unasked
 
--- beside the answers, the definers of all members by the hashes of their names
-pub record IsKeeping (objects : List Object) (entries : List Entry) (answers : List (List Answers)) : Type 0 where
-  pub index : IsIndex objects entries
+-- beside the answers, the definers of all members by keys of their names
+pub record IsKeeping (objects : List Object) (index : ScopeIndex) (answers : List (List Answers)) : Type 0 where
+  pub index : IsIndex objects index
   pub rows : IsKept objects answers

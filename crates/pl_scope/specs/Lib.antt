@@ -5,6 +5,12 @@ pub mod Scope
 pub mod Matching
 pub mod Probing
 pub mod Finds
+pub mod Entries
+pub mod VersionIndex
+pub mod Numbers
+pub mod Definers
+pub mod Block
 pub mod Index
+pub mod ScopeIndex
 pub mod Folder
 pub mod Kept

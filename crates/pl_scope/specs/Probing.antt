@@ -29,14 +29,6 @@ taken o name class (Index index) s = defines o name class s && index_of s.versio
 taken o name class Each s = counts o name class true s
 taken o name class Shown s = counts o name class false s
 
--- the same for jump slots
-abbrev pub picked : Object → List ℕ → Pick → Symbol → Bool
-picked o name (Version version) s = defines o name Jump s && has_version o version.now s
-picked o name Plain s = defines o name Jump s && s.version == VER_NDX_GLOBAL
-picked o name (Index index) s = defines o name Jump s && index_of s.version == index
-picked o name Each s = counts o name Jump true s
-picked o name Shown s = counts o name Jump false s
-
 abbrev pub passes : (Symbol → Bool) → Option Symbol → Bool
 passes p None = false
 passes p (Some s) = p s
@@ -63,7 +55,7 @@ led_to p = chain_symbols p.table.now p.hash
 
 -- whether a step takes the symbol of an index
 abbrev pub picks : Probe → Pick → ℕ → Bool
-picks p pick index = passes_at (picked p.object.now p.name.now pick) p.object.now.symbols index
+picks p pick index = passes_at (taken p.object.now p.name.now Jump pick) p.object.now.symbols index
 
 abbrev pub lesser : Option ℕ → ℕ → ℕ
 lesser None index = index

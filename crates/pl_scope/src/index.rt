@@ -1,15 +1,13 @@
-// The definers of all members, by the hashes of their names.
-ghost use Rattle.std.specs.Prelude.{◌≡◌, ℕ, ◌+◌, ◌≤◌, ◌<◌, ◌++◌, ◌==◌, true, false, nat_lt, length, IfOk, OnOk};
-ghost use Rattle.std.specs.List.{All, list_any, filter_map};
-ghost use Rattle.std.specs.List.Sorted.{IsNonDecreasingBy, IsPartitionPoint, IsPermutation};
-ghost use Rattle.pl_scope.specs.Scope.{objects};
+// The definers of objects, by the hashes of their names.
+ghost use Rattle.std.specs.Prelude.{◌≡◌, ◌≤◌, ◌++◌, true, false, nat_lt, length, OnOk};
+ghost use Rattle.std.specs.List.{filter_map};
+ghost use Rattle.std.specs.List.Sorted.{IsNonDecreasingBy, IsPartitionPoint};
 ghost use Rattle.pl_scope.specs.Index as spec;
 
-use crate::Scope;
 use pl_hash::gnu_hash;
 use pl_object::Object;
 use pl_sym::{Class, Symbol, is_definer};
-use std::alloc::{AllocError, Global};
+use std::alloc::AllocError;
 
 /// A member has a definer under a hash.
 #[derive(Clone, Copy)]
@@ -46,34 +44,6 @@ pub fn add_entries(entries: &mut Vec<Entry>, object: &Object, member: u32) -> Re
     Ok(())
 }
 
-/// The definers of all members, in scope order.
-fn entries(alloc: Global, scope: &Scope<'_>) -> Result<Vec<Entry>, AllocError>
-    ensures { IfOk result (λ v. v.items ≡ spec.entries (objects scope.now)) }
-{
-    let mut entries = Vec::new(alloc);
-    for member in 0..scope.count() {
-        add_entries(&mut entries, scope.object(member), member)?;
-    }
-    Ok(entries)
-}
-
-/// Puts entries into the order of their hashes.
-fn sort_entries(entries: &mut Vec<Entry>)
-    ensures same { IsPermutation entries.old.items entries.new.items }
-    ensures rising { IsNonDecreasingBy (λ e. e.hash) entries.new.items }
-{
-    entries.sort_unstable_by_key(|entry| entry.hash);
-}
-
-/// The definers of all members, in the order of their names' hashes. The time grows as `n log n`. It fails only for want of memory.
-pub fn index_of(alloc: Global, scope: &Scope<'_>) -> Result<Vec<Entry>, AllocError>
-    ensures { IfOk result (λ v. spec.IsIndex (objects scope.now) v.items) }
-{
-    let mut entries = entries(alloc, scope)?;
-    sort_entries(&mut entries);
-    Ok(entries)
-}
-
 /// How many of the entries, which rise, have lower hashes than a number.
 fn before(index: &[Entry], hash: u64) -> usize
     requires { IsNonDecreasingBy (λ e. e.hash) index.now }
@@ -87,11 +57,7 @@ fn before(index: &[Entry], hash: u64) -> usize
 /// The entries of a hash.
 pub fn under(index: &[Entry], hash: u32) -> &[Entry]
     requires { IsNonDecreasingBy (λ e. e.hash) index.now }
-    ensures whole { (m : ℕ) → list_any (spec.is_entry hash m) index.now ≡ true
-        → list_any (λ e. e.member == m) result.now ≡ true }
-    ensures among { (count : ℕ) → All (λ e. e.member < count) index.now
-        → All (λ e. e.member < count) result.now }
-    ensures exact { result.now ≡ spec.entries_of index.now hash }
+    ensures { result.now ≡ spec.entries_of index.now hash }
 {
     let hash = u64::from(hash);
     let first = before(index, hash);

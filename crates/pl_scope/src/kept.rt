@@ -5,21 +5,21 @@ ghost use Rattle.pl_scope.specs.Finds.{finds};
 ghost use Rattle.pl_scope.specs.Kept as spec;
 
 use crate::answers::Answers;
-use crate::index::{Entry, index_of};
 use crate::lookup::{Way, find_by};
+use crate::scope_index::{ScopeIndex, index_of};
 use crate::{Found, Reference, Scope};
 use pl_io::NoMemory;
 use pl_object::Object;
 use std::alloc::{AllocError, Global};
 use std::marker::Model;
 
-/// The look-ups of a scope whose answers are kept: one place for each member, symbol and class of relocations (JUMP_SLOT, COPY, every other). An index of the definers of all members, by the hashes of their names, tells a first look-up which members to ask. Contracts see it as the scope.
+/// The look-ups of a scope whose answers are kept: one place for each member, symbol and class of relocations (JUMP_SLOT, COPY, every other). An index of the definers of all members, by keys of their names, tells a first look-up which members to ask, and which of their symbols. Contracts see it as the scope.
 #[derive(Drop)]
 pub struct Kept<'s, 'a> {
     scope: &'s Scope<'a>,
 
-    /// The definers of all members, in the order of their names' hashes.
-    index: Vec<Entry>,
+    /// The definers of all members.
+    index: ScopeIndex<'a>,
 
     rows: Vec<Vec<Answers>>,
 }
@@ -34,7 +34,7 @@ impl<'s, 'a> Model for Kept<'s, 'a> {
 
     ghost view = { λ k. k.scope.now };
 
-    ghost invariant = { λ k. IsKeeping (objects k.scope.now) k.index.items (map (λ row. row.items) k.rows.items) };
+    ghost invariant = { λ k. IsKeeping (objects k.scope.now) k.index (map (λ row. row.items) k.rows.items) };
 }
 
 fn unasked_row(alloc: Global, object: &Object) -> Result<Vec<Answers>, AllocError>

@@ -2,20 +2,25 @@
 #![tactic(auto)]
 
 mod answers;
+mod block;
 pub mod constants;
+mod definers;
+mod entries;
 mod fault;
 mod folder;
 mod found;
-mod index;
 mod kept;
 mod laws;
 mod lookup;
 mod matching;
 mod member;
+mod numbers;
 mod order;
 mod probe;
 mod reference;
 mod scope;
+mod scope_index;
+mod version_index;
 mod walks;
 mod wanted;
 

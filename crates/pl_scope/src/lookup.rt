@@ -1,34 +1,38 @@
 // The definer that a reference finds.
-ghost use Rattle.std.specs.Prelude.{◌≡◌, ◌<◌, ◌==◌, ◌&&◌, length, not, IfSome, Some};
+ghost use Rattle.std.specs.Prelude.{◌≡◌, ◌<◌, ◌==◌, ◌&&◌, length, not, slice_get, vec_len, IfSome, Some};
 ghost use Rattle.std.specs.List.{list_any};
 ghost use Rattle.std.specs.Option.{ForSome, option_map};
+ghost use Rattle.pl_object.specs.SymbolClauses.{version_name};
 ghost use Rattle.pl_sym.specs.Symbol.{is_undefined};
 ghost use Rattle.pl_scope.specs.Scope.{objects, IsFit, IsReference, IsSymbol};
 ghost use Rattle.pl_scope.specs.Matching.{matching};
 ghost use Rattle.pl_scope.specs.Probing as probing;
 ghost use Rattle.pl_scope.specs.Folder as folder;
-ghost use Rattle.pl_scope.specs.Index as index;
+ghost use Rattle.pl_scope.specs.ScopeIndex as index;
 ghost use Rattle.pl_scope.specs.Finds as spec;
 
+use crate::block::{Block, matching_in_block};
 use crate::folder::{Among, position_of};
-use crate::index::{Entry, under};
 use crate::matching::{defines, matching};
 use crate::probe::matching_by_table;
+use crate::scope_index::{ScopeIndex, members_under, own_at};
 use crate::wanted::{Wanted, wanted_by};
 use crate::{Found, Reference, Scope};
 use pl_elf::constants::R_X86_64_COPY;
-use pl_object::Object;
+use pl_object::{Object, version_name};
 use pl_sym::constants::STV_DEFAULT;
 use pl_sym::{Class, Symbol};
+use pl_ver::constants::VER_NDX_GLOBAL;
+use pl_ver::index_of;
 
 /// A way to search the members.
 #[derive(Clone, Copy)]
-pub enum Way<'i> {
+pub enum Way<'i, 'a> {
     /// One after the other, each by a table.
     InOrder,
 
-    /// Those that have a definer under the name's hash, by an index of the scope, each by a table.
-    Indexed(&'i [Entry]),
+    /// Those that have a definer under the name's key, by an index of the scope, each through its own definers under that key.
+    Indexed(&'i ScopeIndex<'a>),
 
     /// Those that have a definer under the name's hash, by an index of the folder whose objects they are, each by a table.
     Among(&'i Among<'i>),
@@ -121,17 +125,47 @@ fn found_in(member: u32, matched: Option<u32>) -> Option<Found>
     }
 }
 
+/// The index of a member's symbol that matches, by an index of the scope, among the member's own definers under keys of the name.
+fn matching_by_index(
+    object: &Object,
+    wanted: &Wanted<'_>,
+    member: u32,
+    definers: &ScopeIndex<'_>,
+) -> Option<u32>
+    requires wanted { probing.IsWanted wanted.now }
+    requires own { index.HasOwn definers.now member object.now }
+    ensures { result ≡ matching object.now wanted.now.name.now wanted.now.class
+        (option_map (λ x. x.now) wanted.now.version) }
+{
+    let Some(key) = definers.numbers.key_of(wanted.name, wanted.gnu) else {
+        return None;
+    };
+    let own = own_at(definers, member);
+    let block = Block {
+        object,
+        name: wanted.name,
+        class: wanted.class,
+        key,
+        definers: &own.definers,
+        versions: &own.versions,
+        numbers: &definers.numbers,
+    };
+    matching_in_block(&block, wanted.version)
+}
+
 /// The matching definer of a member.
 #[tactic(auto, unfolding(crate::specs::Finds::in_member))]
-fn in_member(scope: &Scope<'_>, wanted: &Wanted<'_>, member: u32, way: Way<'_>) -> Option<Found>
+fn in_member(scope: &Scope<'_>, wanted: &Wanted<'_>, member: u32, way: Way<'_, '_>) -> Option<Found>
     requires within { member < length scope.now }
     requires wanted { probing.IsWanted wanted.now }
+    requires way { folder.IsWay (objects scope.now) way }
     ensures { result ≡ spec.in_member (objects scope.now) wanted.now.name.now wanted.now.class
         (option_map (λ x. x.now) wanted.now.version) member }
 {
     let object = scope.object(member);
     let matched = match way {
         Way::InLists => matching_by_list(object, wanted),
+        Way::Indexed(definers) => matching_by_index(object, wanted, member, definers),
         _ => matching_by_hash(object, wanted),
     };
     found_in(member, matched)
@@ -139,8 +173,14 @@ fn in_member(scope: &Scope<'_>, wanted: &Wanted<'_>, member: u32, way: Way<'_>) 
 
 /// The matching definer of the first member from one on that has one.
 #[tactic(auto, using(crate::proofs::SearchLaws::first_more, crate::proofs::SearchLaws::first_done))]
-fn first_in_order(scope: &Scope<'_>, wanted: &Wanted<'_>, start: u32, way: Way<'_>) -> Option<Found>
-    requires { probing.IsWanted wanted.now }
+fn first_in_order(
+    scope: &Scope<'_>,
+    wanted: &Wanted<'_>,
+    start: u32,
+    way: Way<'_, '_>,
+) -> Option<Found>
+    requires wanted { probing.IsWanted wanted.now }
+    requires way { folder.IsWay (objects scope.now) way }
     ensures { result ≡ spec.first_match scope.now wanted.now start }
 {
     let count = scope.count();
@@ -170,33 +210,38 @@ fn best_of(
     start: u32,
     best: Option<Found>,
     member: u32,
+    way: Way<'_, '_>,
 ) -> Option<Found>
     requires within { member < length scope.now }
     requires wanted { probing.IsWanted wanted.now }
+    requires way { folder.IsWay (objects scope.now) way }
     ensures { result ≡ index.best_of (objects scope.now) wanted.now.name.now wanted.now.class
         (option_map (λ x. x.now) wanted.now.version) start best member }
 {
     if is_better(start, best, member) {
-        in_member(scope, wanted, member, Way::InOrder).or(best)
+        in_member(scope, wanted, member, way).or(best)
     } else {
         best
     }
 }
 
-/// The matching definer of the first member from one on that has one, where only the members under the name's hash are asked.
+/// The matching definer of the first member from one on that has one, where only the members under the name's key are asked.
 fn first_indexed(
     scope: &Scope<'_>,
     wanted: &Wanted<'_>,
     start: u32,
-    entries: &[Entry],
+    definers: &ScopeIndex<'_>,
 ) -> Option<Found>
     requires wanted { probing.IsWanted wanted.now }
-    requires index { index.IsIndex (objects scope.now) entries.now }
+    requires index { index.IsIndex (objects scope.now) definers.now }
     ensures { result ≡ spec.first_match scope.now wanted.now start }
 {
+    let Some(key) = definers.numbers.key_of(wanted.name, wanted.gnu) else {
+        return None;
+    };
     let mut best = None;
-    for entry in under(entries, wanted.gnu) {
-        best = best_of(scope, wanted, start, best, entry.member);
+    for entry in members_under(definers, key) {
+        best = best_of(scope, wanted, start, best, entry.value, Way::Indexed(definers));
     }
     best
 }
@@ -215,7 +260,7 @@ fn best_at(
 {
     match member {
         None => best,
-        Some(member) => best_of(scope, wanted, start, best, member),
+        Some(member) => best_of(scope, wanted, start, best, member, Way::InOrder),
     }
 }
 
@@ -242,13 +287,13 @@ fn first_among(
 }
 
 /// The matching definer of the first member from one on that has one.
-fn first_from(scope: &Scope<'_>, wanted: &Wanted<'_>, start: u32, way: Way<'_>) -> Option<Found>
+fn first_from(scope: &Scope<'_>, wanted: &Wanted<'_>, start: u32, way: Way<'_, '_>) -> Option<Found>
     requires wanted { probing.IsWanted wanted.now }
     requires way { folder.IsWay (objects scope.now) way }
     ensures { result ≡ spec.first_match scope.now wanted.now start }
 {
     match way {
-        Way::Indexed(entries) => first_indexed(scope, wanted, start, entries),
+        Way::Indexed(definers) => first_indexed(scope, wanted, start, definers),
         Way::Among(among) => first_among(scope, wanted, start, among),
         _ => first_in_order(scope, wanted, start, way),
     }
@@ -261,7 +306,7 @@ fn in_order(
     reference: Reference,
     object: &Object,
     wanted: &Wanted<'_>,
-    way: Way<'_>,
+    way: Way<'_, '_>,
 ) -> Option<Found>
     requires within { reference.member < length scope.now }
     requires wanted { probing.IsWanted wanted.now }
@@ -282,19 +327,59 @@ fn in_order(
     first_from(scope, wanted, 0, way)
 }
 
+/// The name of the version that a version word of a member stands for, by an index of the scope.
+fn version_by_index<'a>(definers: &ScopeIndex<'a>, member: u32, word: u16) -> Option<&'a [u8]>
+    requires { member < vec_len definers.now.own }
+    ensures { index.IsVersionAt definers.now member word (option_map (λ name. name.now) result) }
+{
+    let own = own_at(definers, member);
+    own.versions.name_of(word)
+}
+
+/// The name of the version that a version word of a member stands for.
+fn version_by<'a>(object: &'a Object, member: u32, word: u16, way: Way<'_, 'a>) -> Option<&'a [u8]>
+    requires { folder.IsWayAt way member object.now }
+    ensures { option_map (λ name. name.now) result ≡ version_name object.now.versions word }
+{
+    match way {
+        Way::Indexed(definers) => version_by_index(definers, member, word),
+        _ => version_name(&object.versions, word),
+    }
+}
+
+/// The version that a symbol of a member asks for.
+#[tactic(auto, unfolding(crate::specs::Finds::version_wanted))]
+fn version_wanted<'a>(
+    object: &'a Object,
+    member: u32,
+    symbol: &Symbol,
+    way: Way<'_, 'a>,
+) -> Option<&'a [u8]>
+    requires { folder.IsWayAt way member object.now }
+    ensures { option_map (λ name. name.now) result ≡ spec.version_wanted object.now symbol.now }
+{
+    if index_of(symbol.version) > VER_NDX_GLOBAL {
+        version_by(object, member, symbol.version, way)
+    } else {
+        None
+    }
+}
+
 #[tactic(auto, unfolding(crate::specs::Finds::found_for))]
-fn found_for(
+fn found_for<'a>(
     scope: &Scope<'_>,
     reference: Reference,
-    object: &Object,
-    symbol: &Symbol,
-    way: Way<'_>,
+    object: &'a Object,
+    symbol: &'a Symbol,
+    way: Way<'_, 'a>,
 ) -> Option<Found>
     requires within { reference.member < length scope.now }
+    requires object { slice_get (objects scope.now) reference.member ≡ Some object.now }
     requires way { folder.IsWay (objects scope.now) way }
     ensures { result ≡ spec.found_for (objects scope.now) reference object.now symbol.now }
 {
-    let wanted = wanted_by(object, symbol, reference.kind);
+    let version = version_wanted(object, reference.member, symbol, way);
+    let wanted = wanted_by(symbol, reference.kind, version);
     in_order(scope, reference, object, &wanted, way)
 }
 
@@ -309,7 +394,7 @@ pub fn own_symbol<'a>(scope: &Scope<'a>, reference: Reference) -> &'a Symbol
 
 /// The symbol that a reference finds, by a way to search the members.
 #[tactic(auto, unfolding(crate::specs::Finds::finds))]
-pub fn find_by(scope: &Scope<'_>, reference: Reference, way: Way<'_>) -> Option<Found>
+pub fn find_by<'a>(scope: &Scope<'a>, reference: Reference, way: Way<'_, 'a>) -> Option<Found>
     requires reference { IsReference scope.now reference }
     requires way { folder.IsWay (objects scope.now) way }
     ensures { result ≡ spec.finds (objects scope.now) reference }

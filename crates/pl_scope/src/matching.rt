@@ -14,7 +14,8 @@ use pl_sym::{Class, Symbol, is_definer};
 use pl_ver::constants::{VER_NDX_GLOBAL, VER_NDX_LOCAL, VERSYM_HIDDEN};
 use pl_ver::index_of;
 
-fn is_same(name: &[u8], other: &[u8]) -> bool
+/// Whether two names have the same bytes.
+pub fn is_same(name: &[u8], other: &[u8]) -> bool
     ensures { result ≡ bytes_eq name.now other.now }
 {
     name == other

@@ -48,7 +48,6 @@ pub struct Probe<'a> {
 }
 
 /// Whether a step takes the symbol of an index.
-#[tactic(auto, using(crate::proofs::LeastLaws::taken_is))]
 fn picks(probe: &Probe<'_>, pick: Pick<'_>, index: u32) -> bool
     ensures { result ≡ spec.picks probe.now pick.entry index }
 {
@@ -68,7 +67,7 @@ fn lesser(least: Option<u32>, index: u32) -> u32
 }
 
 /// The lesser of an index and those before, where it was taken.
-fn with_picked(least: Option<u32>, index: u32, picked: bool) -> Option<u32>
+pub fn with_picked(least: Option<u32>, index: u32, picked: bool) -> Option<u32>
     ensures { result ≡ if picked then Some (spec.lesser least index) else least }
 {
     if picked {
@@ -119,7 +118,7 @@ fn has_another(probe: &Probe<'_>, pick: Pick<'_>, index: u32) -> bool
 /// The index of the first symbol that a step takes.
 fn first_picked(probe: &Probe<'_>, pick: Pick<'_>) -> Option<u32>
     requires { spec.IsProbe probe.now }
-    ensures { result ≡ position (spec.picked probe.now.object.now probe.now.name.now pick.entry)
+    ensures { result ≡ position (spec.taken probe.now.object.now probe.now.name.now Jump pick.entry)
         probe.now.object.now.symbols }
 {
     least(probe, pick)
@@ -128,8 +127,8 @@ fn first_picked(probe: &Probe<'_>, pick: Pick<'_>) -> Option<u32>
 /// The index of the only symbol that a step takes.
 fn only_picked(probe: &Probe<'_>, pick: Pick<'_>) -> Option<u32>
     requires { spec.IsProbe probe.now }
-    ensures { result ≡ matching.only (spec.picked probe.now.object.now probe.now.name.now
-        pick.entry) probe.now.object.now.symbols }
+    ensures { result ≡ matching.only (spec.taken probe.now.object.now probe.now.name.now
+        Jump pick.entry) probe.now.object.now.symbols }
 {
     let Some(index) = first_picked(probe, pick) else {
         return None;

@@ -1,16 +1,12 @@
 // What a reference asks of each object.
 ghost use Rattle.std.specs.Prelude.{◌≡◌};
-ghost use Rattle.std.specs.Option.{option_map};
 ghost use Rattle.pl_hash.specs.ChainSymbols.{name_hash};
 ghost use Rattle.pl_scope.specs.Finds as finds;
 ghost use Rattle.pl_scope.specs.Probing as spec;
 
 use pl_elf::constants::R_X86_64_JUMP_SLOT;
 use pl_hash::{Table, gnu_hash, sysv_hash};
-use pl_object::{Object, version_name};
 use pl_sym::{Class, Symbol};
-use pl_ver::constants::VER_NDX_GLOBAL;
-use pl_ver::index_of;
 
 /// What a reference asks of each object: a definer of a name, for a class of relocations and with or without a version. The name's hash in GNU tables, which most objects have, is made once.
 #[derive(Clone, Copy)]
@@ -36,30 +32,18 @@ fn class_of(kind: u32) -> Class
     }
 }
 
-#[tactic(auto, unfolding(crate::specs::Finds::version_wanted))]
-fn version_wanted<'a>(object: &'a Object, symbol: &Symbol) -> Option<&'a [u8]>
-    ensures { option_map (λ name. name.now) result ≡ finds.version_wanted object.now symbol.now }
-{
-    if index_of(symbol.version) > VER_NDX_GLOBAL {
-        version_name(&object.versions, symbol.version)
-    } else {
-        None
-    }
-}
-
-/// What a symbol of an object asks for a kind of relocation.
-pub fn wanted_by<'a>(object: &'a Object, symbol: &'a Symbol, kind: u32) -> Wanted<'a>
+/// What a symbol asks for a kind of relocation, where the version that it asks for is given.
+pub fn wanted_by<'a>(symbol: &'a Symbol, kind: u32, version: Option<&'a [u8]>) -> Wanted<'a>
     ensures name { result.name.now ≡ symbol.now.name }
     ensures class { result.class ≡ finds.class_of kind }
-    ensures version { option_map (λ name. name.now) result.version
-        ≡ finds.version_wanted object.now symbol.now }
+    ensures version { result.version ≡ version.entry }
     ensures hash { spec.IsWanted result }
 {
     let name = symbol.name.as_slice();
     Wanted {
         name,
         class: class_of(kind),
-        version: version_wanted(object, symbol),
+        version,
         gnu: gnu_hash(name),
     }
 }

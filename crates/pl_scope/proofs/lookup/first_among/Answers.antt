@@ -5,6 +5,7 @@ use Rattle.std.specs.Prelude.{◌==◌}
 use Rattle.pl_scope.specs.Folder.{placed}
 use Rattle.pl_scope.specs.Index.{entries_of}
 use Rattle.pl_scope.specs.Scope.{objects}
+use Rattle.pl_scope.specs.declared.entries.Entry.{Entry as Placed}
 use Rattle.pl_scope.specs.declared.index.Entry.{Entry}
 use Rattle.pl_scope.proofs.MemberLaws.{length_objects}
 use Rattle.pl_scope.proofs.FolderLaws.{among_more, among_done, among_whole, within_by}
@@ -27,5 +28,5 @@ returns c =
     let entries = c.entries_of-entries.ensures ∙ ap (entries_of among.index.now) c.requires.wanted.gnu in
     among_done os wanted c.args.start among.positions.now c.entries_of-entries.result.now c.loop-entry.entry-index (length c.args.scope.now) c.loop-entry.best c.loop-entry-test.false (sym (length_objects c.args.scope.now)) c.loop-entry.invariant
     (λ m f at.
-    subst (λ (es : List Entry). list_any (λ (e : Entry). e.member == m) (filter_map (placed among.positions.now) es) ≡ true) (sym entries)
+    subst (λ (es : List Entry). list_any (λ (e : Placed). e.value == m) (filter_map (placed among.positions.now) es) ≡ true) (sym entries)
     (among_whole os among wanted.name.now wanted.class (option_map (λ x. x.now) wanted.version) m f c.requires.index at))

@@ -2,7 +2,7 @@ use Rattle.std.proofs.Common.{take}
 use Rattle.std.specs.List.{filter_map}
 use Rattle.std.specs.Option.{option_map}
 use Rattle.pl_scope.specs.Folder.{placed}
-use Rattle.pl_scope.specs.Index.{IsBest}
+use Rattle.pl_scope.specs.ScopeIndex.{IsBest}
 use Rattle.pl_scope.specs.Scope.{objects}
 use Rattle.pl_scope.proofs.lookup.first_among.Given as goal
 

@@ -1,7 +1,7 @@
 use Rattle.std.proofs.Common.{take}
 use Rattle.std.specs.Option.{option_map}
 use Rattle.pl_scope.specs.Scope.{objects}
-use Rattle.pl_scope.specs.Index.{IsBest}
+use Rattle.pl_scope.specs.ScopeIndex.{IsBest}
 use Rattle.pl_scope.proofs.lookup.first_indexed.Given as goal
 
 abbrev pub invariant-loop-entry : goal.invariant-loop-entry

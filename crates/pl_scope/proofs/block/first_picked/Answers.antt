@@ -1,0 +1,18 @@
+use Rattle.std.proofs.Common.{◌∙◌, Bool, Some, ap, cond}
+use Rattle.pl_scope.specs.Block.{takes}
+use Rattle.pl_scope.specs.Probing.{lesser}
+use Rattle.pl_scope.proofs.BlockLaws.{first_of, least_done, least_more}
+use Rattle.pl_scope.proofs.block.first_picked.Goals as goal
+
+pub loop-entry-preserved : goal.loop-entry-preserved
+loop-entry-preserved c =
+    let entry = c.entry-item.result in
+    let least = c.loop-entry.least in
+    least_more (takes c.args.block.now c.args.pick) c.candidates-entry-items.result.now c.loop-entry.entry-index entry least _ _ c.loop-entry-test.true c.entry-item.is
+    (c.with_picked-least.ensures ∙ ap (λ (b : Bool). cond b (Some (lesser least entry.value)) least) c.picks.ensures) c.loop-entry.invariant
+
+pub returns : goal.returns
+returns c =
+    let block = c.args.block.now in
+    let es = c.candidates-entry-items.result.now in
+    least_done (takes block c.args.pick) es c.loop-entry.entry-index c.loop-entry.least _ c.loop-entry-test.false c.loop-entry.invariant ∙ first_of block c.args.pick es c.candidates-entry-items.ensures
