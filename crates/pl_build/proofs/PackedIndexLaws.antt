@@ -1,5 +1,5 @@
 -- Where packed words stand first, line by line, and words that share a byte.
-use Rattle.std.proofs.Common.{◌≡◌, ℕ, ◌+◌, ◌-◌, ◌<◌, ◌≤◌, Bool, true, false, cond, List, [], ◌∷◌, length, take, get_or, Option, Some, None, refl, sym, ap, subst, ◌∙◌, arith, inl, inr}
+use Rattle.std.proofs.Common.{◌≡◌, ℕ, ◌+◌, ◌-◌, ◌<◌, ◌≤◌, Bool, true, false, cond, List, [], ◌∷◌, ◌++◌, length, take, get_or, Option, Some, None, refl, sym, ap, subst, ◌∙◌, arith, inl, inr}
 use Rattle.std.specs.Prelude.{◌&&◌, ◌||◌, ◌==◌, is_some, nat_lt, position}
 use Rattle.std.specs.BTreeMap.{BTreeMap, get, is_at, IsEmpty as IsEmptyMap}
 use Rattle.std.specs.List.{list_any}
@@ -69,17 +69,17 @@ offset_none old place = λ q. or_none (offset_place old q)
 pub places_none : (lines : List Line) (index : PackedIndex) → IsEmpty index → IsPackedIndex (take 0 lines) index
 places_none lines index empty = λ q. empty q
 
-pub places_more : (lines : List Line) (old new : PackedIndex) (place : ℕ) (d : Line) → place < length lines
-    → IsNotedBy (λ other. packs_at other (get_or lines place d)) old place new → IsPackedIndex (take place lines) old → IsPackedIndex (take (place + 1) lines) new
-places_more lines old new place d lt noted so_far = λ q.
-    let l = get_or lines place d in
+pub places_more : (lines : List Line) (old new : PackedIndex) (place : ℕ) (line : Line) → place < length lines → line ≡ get_or lines place line
+    → IsNotedBy (λ other. packs_at other line) old place new → IsPackedIndex (take place lines) old → IsPackedIndex (take (place + 1) lines) new
+places_more lines old new place line lt at noted so_far = λ q.
     let front = take place lines in
     let long : length front ≡ place = length-take-le place lines (omega (arith, lt)) in
     noted q
-    ∙ ap (λ (o : Option ℕ). option_or o (cond (packs_at q l) (Some place) None)) (so_far q)
-    ∙ ap (λ (n : ℕ). option_or (position (packs_at q) front) (cond (packs_at q l) (Some n) None)) (sym long)
-    ∙ sym (position_push (packs_at q) front l)
-    ∙ ap (position (packs_at q)) (sym (take_more lines place d lt))
+    ∙ ap (λ (o : Option ℕ). option_or o (cond (packs_at q line) (Some place) None)) (so_far q)
+    ∙ ap (λ (n : ℕ). option_or (position (packs_at q) front) (cond (packs_at q line) (Some n) None)) (sym long)
+    ∙ sym (position_push (packs_at q) front line)
+    ∙ ap (λ (l : Line). position (packs_at q) (front ++ l ∷ [])) at
+    ∙ ap (position (packs_at q)) (sym (take_more lines place line lt))
 
 pub places_all : (lines : List Line) (index : PackedIndex) (place : ℕ) → length lines ≤ place → IsPackedIndex (take place lines) index → IsPackedIndex lines index
 places_all lines index place over so_far = λ q. so_far q ∙ ap (position (packs_at q)) (take_all place lines over)

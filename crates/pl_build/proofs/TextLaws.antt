@@ -34,7 +34,8 @@ from_push p i (y ∷ ys) x = by (p y) (from_push p (i + 1) ys x)
 
 pub position_push : {X : Type 0} (p : X → Bool) (xs : List X) (x : X) → position p (xs ++ x ∷ []) ≡ option_or (position p xs) (cond (p x) (Some (length xs)) None)
 position_push p xs x =
-    position_from-zero p (xs ++ x ∷ []) ∙ from_push p 0 xs x ∙ ap (λ (o : Option ℕ). option_or o (cond (p x) (Some (length xs)) None)) (sym (position_from-zero p xs))
+    let at : 0 + length xs ≡ length xs = omega arith in
+    position_from-zero p (xs ++ x ∷ []) ∙ from_push p 0 xs x ∙ ap (λ (n : ℕ). option_or (position_from p 0 xs) (cond (p x) (Some n) None)) at ∙ ap (λ (o : Option ℕ). option_or o (cond (p x) (Some (length xs)) None)) (sym (position_from-zero p xs))
 
 any_from : {X : Type 0} (p : X → Bool) (i : ℕ) (xs : List X) → is_some (position_from p i xs) ≡ list_any p xs
 any_from p i [] = refl
@@ -75,7 +76,9 @@ before_from p i (suc n) (x ∷ xs) = by (p x) (before_from p (i + 1) n xs)
 
 -- one of the first rows passes where the first that does is among them
 pub any_before : {X : Type 0} (p : X → Bool) (n : ℕ) (xs : List X) → list_any p (take n xs) ≡ is_before n (position p xs)
-any_before p n xs = before_from p 0 n xs ∙ ap (is_before n) (sym (position_from-zero p xs))
+any_before p n xs =
+    let at : 0 + n ≡ n = omega arith in
+    before_from p 0 n xs ∙ ap (λ (k : ℕ). is_before k (position_from p 0 xs)) at ∙ ap (is_before n) (sym (position_from-zero p xs))
 
 -- the first row that passes is the one at the first place
 pub found_is : {X : Type 0} (p : X → Bool) (xs : List X) → find p xs ≡ option_and_then (λ i. slice_get xs i) (position p xs)
@@ -147,12 +150,13 @@ pub index_push : {X : Type 0} (is : List ℕ → X → Bool) (rows : List X) (ol
 index_push is rows old new row noted so_far = λ q.
     noted q ∙ ap (λ (o : Option ℕ). option_or o (cond (is q row) (Some (length rows)) None)) (so_far q) ∙ sym (position_push (is q) rows row)
 
-pub index_more : {X : Type 0} (is : List ℕ → X → Bool) (rows : List X) (old new : TextIndex) (place : ℕ) (d : X) → place < length rows
-    → IsNoted is old (get_or rows place d) place new → IsIndexOf is (take place rows) old → IsIndexOf is (take (place + 1) rows) new
-index_more {X = X} is rows old new place d lt noted so_far =
+pub index_more : {X : Type 0} (is : List ℕ → X → Bool) (rows : List X) (old new : TextIndex) (place : ℕ) (row : X) → place < length rows → row ≡ get_or rows place row
+    → IsNoted is old row place new → IsIndexOf is (take place rows) old → IsIndexOf is (take (place + 1) rows) new
+index_more {X = X} is rows old new place row lt at noted so_far =
     let long : length (take place rows) ≡ place = length-take-le place rows (omega (arith, lt)) in
-    subst (λ (xs : List X). IsIndexOf is xs new) (sym (take_more rows place d lt))
-    (index_push is (take place rows) old new (get_or rows place d) (subst (λ (n : ℕ). IsNoted is old (get_or rows place d) n new) (sym long) noted) so_far)
+    let here : IsNoted is old (get_or rows place row) place new = subst (λ (r : X). IsNoted is old r place new) at noted in
+    subst (λ (xs : List X). IsIndexOf is xs new) (sym (take_more rows place row lt))
+    (index_push is (take place rows) old new (get_or rows place row) (subst (λ (n : ℕ). IsNoted is old (get_or rows place row) n new) (sym long) here) so_far)
 
 pub index_all : {X : Type 0} (is : List ℕ → X → Bool) (rows : List X) (index : TextIndex) (place : ℕ) → length rows ≤ place → IsIndexOf is (take place rows) index → IsIndexOf is rows index
 index_all is rows index place over so_far = λ q. so_far q ∙ ap (position (is q)) (take_all place rows over)

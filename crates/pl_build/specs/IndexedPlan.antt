@@ -12,7 +12,7 @@ abbrev pub is_version : List ℕ → List ℕ → Bool
 is_version name version = bytes_eq version name
 
 -- each name has the place of the first symbol that is written so, each version and each text that of the first that it is
-pub record IsIndexedPlan (plan : LayoutPlan) (symbols versions strings : TextIndex) : Type 0 where
-  pub symbols : IsIndexOf is_written_as plan.symbols symbols
-  pub versions : IsIndexOf is_version plan.versions versions
-  pub strings : IsIndexOf has_text plan.strings.entries strings
+pub record IsIndexedPlan (plan : LayoutPlan) (by_symbol by_version by_text : TextIndex) : Type 0 where
+  pub symbols : IsIndexOf is_written_as plan.symbols by_symbol
+  pub versions : IsIndexOf is_version plan.versions by_version
+  pub strings : IsIndexOf has_text plan.strings.entries by_text

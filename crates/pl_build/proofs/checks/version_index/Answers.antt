@@ -10,9 +10,10 @@ loop-place-init c = index_none defines c.args.lines.now c.new-index.result c.new
 
 pub loop-place-preserved : goal.loop-place-preserved
 loop-place-preserved c =
+    let line = c.index-lines-place.result in
     let lt : c.loop-place.place < length c.args.lines.now = omega arith in
-    index_more defines c.args.lines.now c.loop-place.index c.note.new.self c.loop-place.place _ lt
-    (noted_as defines c.loop-place.index c.note.new.self _ (defined_version _) c.loop-place.place (λ q. defines_is q _) (rw c.defined_version.ensures at c.in_ok-note.ensures)) c.loop-place.invariant
+    index_more defines c.args.lines.now c.loop-place.index c.note.new.self c.loop-place.place line lt c.index-lines-place.is
+    (noted_as defines c.loop-place.index c.note.new.self line (defined_version line) c.loop-place.place (λ q. defines_is q line) (rw c.defined_version.ensures at c.in_ok-note.ensures)) c.loop-place.invariant
 
 pub returns : goal.returns
 returns c = index_all defines c.args.lines.now c.loop-place.index c.loop-place.place (omega arith) c.loop-place.invariant

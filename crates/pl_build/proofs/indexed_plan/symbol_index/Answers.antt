@@ -1,4 +1,4 @@
-use Rattle.std.proofs.Common.{◌<◌, length, refl, Some, arith}
+use Rattle.std.proofs.Common.{◌<◌, length, ap, Some, arith}
 use Rattle.pl_build.specs.Relocations.{is_written_as}
 use Rattle.pl_build.proofs.TextLaws.{index_all, index_more, index_none, noted_as}
 use Rattle.pl_build.proofs.indexed_plan.symbol_index.Goals as goal
@@ -9,8 +9,8 @@ loop-place-init c = index_none is_written_as c.args.symbols.now c.new-index.resu
 pub loop-place-preserved : goal.loop-place-preserved
 loop-place-preserved c =
     let lt : c.loop-place.place < length c.args.symbols.now = omega arith in
-    index_more is_written_as c.args.symbols.now c.loop-place.index c.note.new.self c.loop-place.place _ lt
-    (noted_as is_written_as c.loop-place.index c.note.new.self _ (Some c.as_slice.result.now) c.loop-place.place (λ q. rw c.as_slice.ensures refl) c.in_ok-note.ensures) c.loop-place.invariant
+    index_more is_written_as c.args.symbols.now c.loop-place.index c.note.new.self c.loop-place.place c.index-symbols-place.result lt c.index-symbols-place.is
+    (noted_as is_written_as c.loop-place.index c.note.new.self c.index-symbols-place.result (Some c.as_slice.result.now) c.loop-place.place (λ q. rw c.as_slice.ensures (ap (is_written_as q) c.index-symbols-place.is)) c.in_ok-note.ensures) c.loop-place.invariant
 
 pub returns : goal.returns
 returns c = index_all is_written_as c.args.symbols.now c.loop-place.index c.loop-place.place (omega arith) c.loop-place.invariant
