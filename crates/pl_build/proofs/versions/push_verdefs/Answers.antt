@@ -3,7 +3,7 @@ use Rattle.pl_build.proofs.LoopLaws.{numbers_more, numbers_done}
 use Rattle.pl_build.proofs.versions.push_verdefs.Goals as goal
 
 pub loop-index-init : goal.loop-index-init
-loop-index-init c = rw c.len-count.ensures
+loop-index-init c = rw (c.len-count.ensures, c.layout.ensures)
 
 pub loop-index-preserved : goal.loop-index-preserved
 loop-index-preserved c = numbers_more (verdef_at c.args.plan.now) _ _ _ _ _ c.loop-index-test.true c.in_ok-push_verdef_at.ensures c.loop-index.invariant
