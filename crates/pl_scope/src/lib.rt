@@ -9,6 +9,7 @@ mod entries;
 mod fault;
 mod folder;
 mod found;
+mod index;
 mod kept;
 mod laws;
 mod lookup;
