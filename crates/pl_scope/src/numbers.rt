@@ -46,7 +46,7 @@ struct Hashed<'a> {
     name: &'a [u8],
 }
 
-fn hashed(name: &[u8]) -> Hashed<'_> {
+fn with_hash(name: &[u8]) -> Hashed<'_> {
     Hashed {
         hash: gnu_hash(name),
         name,
@@ -57,11 +57,11 @@ fn hashed(name: &[u8]) -> Hashed<'_> {
 fn add_names<'a>(names: &mut Vec<Hashed<'a>>, object: &'a Object) -> Result<(), AllocError> {
     for symbol in object.symbols.as_slice() {
         if is_definer(symbol, Class::Other, object.kind.is_program()) {
-            names.push(hashed(symbol.name.as_slice()))?;
+            names.push(with_hash(symbol.name.as_slice()))?;
         }
     }
     for row in names_in(&object.versions) {
-        names.push(hashed(row.name.as_slice()))?;
+        names.push(with_hash(row.name.as_slice()))?;
     }
     Ok(())
 }
