@@ -93,7 +93,7 @@ version_is b version s has = version_is_by version (version_name b.object.now.ve
 pub none_have : (b : Block) (version : List ℕ) → IsBlock b → key_of b.numbers.now version ≡ None → HaveVersion b version []
 none_have b version is none i s at definer has =
     let n = named_by b.object.now b.name.now b.class s definer in
-    absurd (subst (λ (x : Option ℕ). IsSome x) none (is.named i s version at n.definer (version_is b version s has)))
+    absurd (false≢true (subst (λ (x : Option ℕ). IsSome x) none (is.named i s version at n.definer (version_is b version s has))))
 
 pub version_here : (b : Block) (version : List ℕ) (key : ℕ) (es : List Entry) → IsBlock b → key_of b.numbers.now version ≡ Some key → AreUnder b.definers.now.by_version.items (pair b.key key) es → HaveVersion b version es
 version_here b version key es is known under i s at definer has =
@@ -116,13 +116,13 @@ pub first_of : (b : Block) (pick : Pick) (es : List Entry) → AreCandidates b p
 first_of b pick es are = least_is (Test b pick) b.object.now.symbols (values es) (complete b pick es are)
 
 -- the entries from one on begin with it
-next_entry : {Y : Type 0} (F : List ℕ → Y) (es : List Entry) (i : ℕ) (e : Entry) → i < length es → e ≡ get_or es i e → F (values (drop i es)) ≡ F (e.value ∷ values (drop (i + 1) es))
-next_entry F es i e lt is = at_drop_more (λ (xs : List Entry). F (values xs)) es i e lt ∙ ap (λ (x : Entry). F (x.value ∷ values (drop (i + 1) es))) (sym is)
+next_entry : {Y : Type 0} (F : List ℕ → Y) (es : List Entry) (i : ℕ) (d : Entry) → i < length es → F (values (drop i es)) ≡ F ((get_or es i d).value ∷ values (drop (i + 1) es))
+next_entry F es i d lt = at_drop_more (λ (xs : List Entry). F (values xs)) es i d lt
 
-pub least_more : (q : ℕ → Bool) (es : List Entry) (i : ℕ) (e : Entry) (least new whole : Option ℕ) → i < length es → e ≡ get_or es i e → new ≡ cond (q e.value) (Some (lesser least e.value)) least
+pub least_more : (q : ℕ → Bool) (es : List Entry) (i : ℕ) (d : Entry) (least new whole : Option ℕ) → i < length es → new ≡ cond (q (get_or es i d).value) (Some (lesser least (get_or es i d).value)) least
     → least_from q least (values (drop i es)) ≡ whole → least_from q new (values (drop (i + 1) es)) ≡ whole
-least_more q es i e least new whole lt at is so_far =
-    ap (λ (o : Option ℕ). least_from q o (values (drop (i + 1) es))) is ∙ sym (next_entry (least_from q least) es i e lt at) ∙ so_far
+least_more q es i d least new whole lt is so_far =
+    ap (λ (o : Option ℕ). least_from q o (values (drop (i + 1) es))) is ∙ sym (next_entry (least_from q least) es i d lt) ∙ so_far
 
 pub least_done : (q : ℕ → Bool) (es : List Entry) (i : ℕ) (least whole : Option ℕ) → length es ≤ i → least_from q least (values (drop i es)) ≡ whole → least ≡ whole
 least_done q es i least whole le so_far = sym (at_drop_all (λ (xs : List Entry). least_from q least (values xs)) es i le) ∙ so_far
@@ -136,9 +136,10 @@ NonePasses q es = (n : ℕ) → list_any (has_value n) es ≡ true → q n ≡ f
 pub none_yet : (q : ℕ → Bool) (es : List Entry) → NonePasses q (take 0 es)
 none_yet q es n hit = absurd (false≢true hit)
 
-pub none_more : (q : ℕ → Bool) (es : List Entry) (i : ℕ) (e : Entry) → i < length es → e ≡ get_or es i e → q e.value ≡ false → NonePasses q (take i es) → NonePasses q (take (i + 1) es)
-none_more q es i e lt at miss so_far n hit =
-    let next : take (i + 1) es ≡ take i es ++ e ∷ [] = take_more es i e lt ∙ ap (λ (x : Entry). take i es ++ x ∷ []) (sym at) in
+pub none_more : (q : ℕ → Bool) (es : List Entry) (i : ℕ) (d : Entry) → i < length es → q (get_or es i d).value ≡ false → NonePasses q (take i es) → NonePasses q (take (i + 1) es)
+none_more q es i d lt miss so_far n hit =
+    let e = get_or es i d in
+    let next : take (i + 1) es ≡ take i es ++ e ∷ [] = take_more es i d lt in
     let there : (list_any (has_value n) (take i es) || (e.value == n || false)) ≡ true = sym (list_any-append (has_value n) (take i es) (e ∷ [])) ∙ ap (list_any (has_value n)) (sym next) ∙ hit in
     elim (or_cases (list_any (has_value n) (take i es)) (e.value == n || false) there) [
       | inl before ↦ so_far n before
@@ -154,15 +155,15 @@ none_done q es i le so_far = subst (NonePasses q) (take_all i es le) so_far
 
 -- ---- another one
 
-pub another_here : (q : ℕ → Bool) (index : ℕ) (es : List Entry) (i : ℕ) (e : Entry) (whole : Bool) → i < length es → e ≡ get_or es i e → (not (e.value == index) && q e.value) ≡ true
+pub another_here : (q : ℕ → Bool) (index : ℕ) (es : List Entry) (i : ℕ) (d : Entry) (whole : Bool) → i < length es → (not ((get_or es i d).value == index) && q (get_or es i d).value) ≡ true
     → another q index (values (drop i es)) ≡ whole → true ≡ whole
-another_here q index es i e whole lt at hit so_far =
-    sym (next_entry (another q index) es i e lt at ∙ ap (λ (b : Bool). b || another q index (values (drop (i + 1) es))) hit) ∙ so_far
+another_here q index es i d whole lt hit so_far =
+    sym (next_entry (another q index) es i d lt ∙ ap (λ (b : Bool). b || another q index (values (drop (i + 1) es))) hit) ∙ so_far
 
-pub another_more : (q : ℕ → Bool) (index : ℕ) (es : List Entry) (i : ℕ) (e : Entry) (whole : Bool) → i < length es → e ≡ get_or es i e → (not (e.value == index) && q e.value) ≡ false
+pub another_more : (q : ℕ → Bool) (index : ℕ) (es : List Entry) (i : ℕ) (d : Entry) (whole : Bool) → i < length es → (not ((get_or es i d).value == index) && q (get_or es i d).value) ≡ false
     → another q index (values (drop i es)) ≡ whole → another q index (values (drop (i + 1) es)) ≡ whole
-another_more q index es i e whole lt at miss so_far =
-    sym (next_entry (another q index) es i e lt at ∙ ap (λ (b : Bool). b || another q index (values (drop (i + 1) es))) miss) ∙ so_far
+another_more q index es i d whole lt miss so_far =
+    sym (next_entry (another q index) es i d lt ∙ ap (λ (b : Bool). b || another q index (values (drop (i + 1) es))) miss) ∙ so_far
 
 pub another_done : (q : ℕ → Bool) (index : ℕ) (es : List Entry) (i : ℕ) (whole : Bool) → length es ≤ i → another q index (values (drop i es)) ≡ whole → false ≡ whole
 another_done q index es i whole le so_far = sym (at_drop_all (λ (xs : List Entry). another q index (values xs)) es i le) ∙ so_far

@@ -30,12 +30,12 @@ HasNumber numbers name = IsSome (number_in numbers name)
 -- ---- one name
 
 some_is : (o : Option ℕ) → is_some o ≡ true → IsSome o
-some_is (Some k) e = tt
+some_is (Some k) e = refl
 some_is None e = absurd (false≢true e)
 
 never : (o : Option ℕ) → is_some o ≡ false → IsSome o → ⊥
 never (Some k) e some = absurd (false≢true (sym e))
-never None e some = some
+never None e some = false≢true some
 
 pub number_there : (name : List ℕ) (old : Names) → is_some (number_in old name) ≡ true → IsNumberAdded name old old
 number_there name old some = record { kept = λ other there. refl; named = some_is (number_in old name) some }
@@ -43,7 +43,7 @@ number_there name old some = record { kept = λ other there. refl; named = some_
 pub number_new : (name : List ℕ) (next : ℕ) (old new : Names) → is_some (number_in old name) ≡ false → ((q : List ℕ) → number_in new q ≡ update bytes_eq (number_in old) name (Some next) q) → IsNumberAdded name old new
 number_new name next old new none updates = record {
   kept = λ other there. updates other ∙ by other (bytes_eq name other) refl there;
-  named = subst (λ (o : Option ℕ). IsSome o) (sym (updates name ∙ ap (λ (b : Bool). cond b (Some next) (number_in old name)) ((bytes_eq-Decides name name).1 refl))) tt;
+  named = subst (λ (o : Option ℕ). IsSome o) (sym (updates name ∙ ap (λ (b : Bool). cond b (Some next) (number_in old name)) ((bytes_eq-Decides name name).1 refl))) refl;
 }
   where
     by : (other : List ℕ) (b : Bool) → bytes_eq name other ≡ b → IsSome (number_in old other) → cond b (Some next) (number_in old other) ≡ number_in old other
@@ -178,4 +178,4 @@ all_done os n numbers le is = record {
 
 -- a hash is a key of every name
 pub all_hashed : (os : List Object) → AreNumbersOf os Hashes
-all_hashed os = record { definers = λ m i o s at own definer. tt; versions = λ m number o version at named. tt }
+all_hashed os = record { definers = λ m i o s at own definer. refl; versions = λ m number o version at named. refl }

@@ -87,16 +87,16 @@ pub record IsMemberTo (own : List Entry) (member place : ℕ) (old new : List En
 pub member_none : (own : List Entry) (member : ℕ) (es : List Entry) → IsMemberTo own member 0 es es
 member_none own member es = record { more = λ e hit. hit; within = λ count lt all. all; there = λ k d lt below. absurd (omega (arith, lt)) }
 
-pub member_more : (own : List Entry) (member place : ℕ) (e : Entry) (key : ℕ) (last : Option ℕ) (old front new : List Entry) → e ≡ get_or own place e → key ≡ name_part e.key → IsKeyAdded last key member front new
+pub member_more : (own : List Entry) (member place : ℕ) (e : Entry) (key : ℕ) (last : Option ℕ) (old front new : List Entry) → key ≡ name_part (get_or own place e).key → IsKeyAdded last key member front new
     → IsMemberTo own member place old front → IsLastThere member last front → IsMemberTo own member (place + 1) old new
-member_more own member place e key last old front new is named added so_far before = record {
+member_more own member place e key last old front new named added so_far before = record {
   more = λ x hit. added.more x (so_far.more x hit);
   within = λ count low all. added.within count low (so_far.within count low all);
   there = λ k d below within. elim (cases_Bool (nat_lt k place)) [
     | inl less ↦ added.more (entry (name_part (get_or own k d).key) member) (so_far.there k d (ltb-true k place less) within)
     | inr ge ↦
         let same : place ≡ k = omega (arith, below, ltb-false k place ge) in
-        let read : e ≡ get_or own k d = is ∙ ap (λ (n : ℕ). get_or own n e) same ∙ get_or_default own k e d within in
+        let read : get_or own place e ≡ get_or own k d = ap (λ (n : ℕ). get_or own n e) same ∙ get_or_default own k e d within in
         subst (λ (n : ℕ). list_any (is_entry n member) new ≡ true) (named ∙ ap (λ (x : Entry). name_part x.key) read) (added.there before)
   ];
 }
@@ -384,7 +384,7 @@ none_matches index name class version m o has none = by (matching o name class v
         let d = matched o name class version i e in
         let n = named_by o name class d.symbol d.defines in
         let some : IsSome (key_of index.numbers name) = subst (λ (k : List ℕ). IsSome (key_of index.numbers k)) n.named (has.definers i d.symbol d.at n.definer) in
-        absurd (subst (λ (k : Option ℕ). IsSome k) none some)
+        absurd (false≢true (subst (λ (k : Option ℕ). IsSome k) none some))
 
 -- a name without a key has no definer
 unkeyed : (os : List Object) (index : ScopeIndex) (name : List ℕ) (class : Class) (version : Option (List ℕ)) (m : ℕ) → IsIndex os index → key_of index.numbers name ≡ None → in_member os name class version m ≡ None
@@ -395,7 +395,7 @@ unkeyed os index name class version m is none = by (in_member os name class vers
     by (Some f) e =
         let d = member_defines os name class version m f e in
         let some : IsSome (key_of index.numbers name) = subst (λ (n : List ℕ). IsSome (key_of index.numbers n)) d.named (is.named.definers m d.index d.object d.symbol d.object_at d.symbol_at d.defines) in
-        absurd (subst (λ (k : Option ℕ). IsSome k) none some)
+        absurd (false≢true (subst (λ (k : Option ℕ). IsSome k) none some))
 
 pub none_keyed : (os : List Object) (index : ScopeIndex) (name : List ℕ) (class : Class) (version : Option (List ℕ)) (start count : ℕ) → IsIndex os index → key_of index.numbers name ≡ None → first_in os name class version (from_member start count) ≡ None
 none_keyed os index name class version start count is none = first_none os name class version (count - start) start (λ m low high. unkeyed os index name class version m is none)

@@ -42,6 +42,6 @@ abbrev pub unasked_row : Object → List Answers
 unasked_row o = replicate (length o.symbols) unasked
 
 -- beside the answers, the definers of all members by keys of their names
-pub record IsKeeping (objects : List Object) (index : ScopeIndex) (answers : List (List Answers)) : Type 0 where
-  pub index : IsIndex objects index
+pub record IsKeeping (objects : List Object) (definers : ScopeIndex) (answers : List (List Answers)) : Type 0 where
+  pub index : IsIndex objects definers
   pub rows : IsKept objects answers

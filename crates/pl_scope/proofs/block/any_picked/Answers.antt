@@ -11,7 +11,7 @@ returns-then-picks c = sym c.picks.ensures ∙ c.if-picks.true
 
 pub loop-entry-preserved : goal.loop-entry-preserved
 loop-entry-preserved c =
-    none_more (takes c.args.block.now c.args.pick) c.args.among.now c.loop-entry.entry-index c.entry-item.result c.loop-entry-test.true c.entry-item.is (sym c.picks.ensures ∙ c.if-picks.false) c.loop-entry.invariant
+    none_more (takes c.args.block.now c.args.pick) c.args.among.now c.loop-entry.entry-index _ c.loop-entry-test.true (sym c.picks.ensures ∙ c.if-picks.false) c.loop-entry.invariant
 
 pub returns : goal.returns
 returns c = none_done (takes c.args.block.now c.args.pick) c.args.among.now c.loop-entry.entry-index c.loop-entry-test.false c.loop-entry.invariant

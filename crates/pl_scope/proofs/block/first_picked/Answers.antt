@@ -1,4 +1,4 @@
-use Rattle.std.proofs.Common.{◌∙◌, Bool, Some, ap, cond}
+use Rattle.std.proofs.Common.{◌≡◌, ◌∙◌, ℕ, Bool, Option, Some, ap, cond, get_or}
 use Rattle.pl_scope.specs.Block.{takes}
 use Rattle.pl_scope.specs.Probing.{lesser}
 use Rattle.pl_scope.proofs.BlockLaws.{first_of, least_done, least_more}
@@ -6,10 +6,7 @@ use Rattle.pl_scope.proofs.block.first_picked.Goals as goal
 
 pub loop-entry-preserved : goal.loop-entry-preserved
 loop-entry-preserved c =
-    let entry = c.entry-item.result in
-    let least = c.loop-entry.least in
-    least_more (takes c.args.block.now c.args.pick) c.candidates-entry-items.result.now c.loop-entry.entry-index entry least _ _ c.loop-entry-test.true c.entry-item.is
-    (c.with_picked-least.ensures ∙ ap (λ (b : Bool). cond b (Some (lesser least entry.value)) least) c.picks.ensures) c.loop-entry.invariant
+    least_more (takes c.args.block.now c.args.pick) c.candidates-entry-items.result.now c.loop-entry.entry-index _ c.loop-entry.least _ _ c.loop-entry-test.true (rw c.picks.ensures at c.with_picked-least.ensures) c.loop-entry.invariant
 
 pub returns : goal.returns
 returns c =

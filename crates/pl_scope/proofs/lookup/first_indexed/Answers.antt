@@ -1,4 +1,4 @@
-use Rattle.std.proofs.Common.{◌<◌, length, sym, subst, arith, ◌∙◌}
+use Rattle.std.proofs.Common.{◌≡◌, ℕ, ◌<◌, length, sym, arith, ◌∙◌}
 use Rattle.std.specs.List.{All}
 use Rattle.std.specs.Option.{option_map}
 use Rattle.pl_scope.specs.Scope.{objects}
@@ -7,24 +7,26 @@ use Rattle.pl_scope.proofs.MemberLaws.{length_objects}
 use Rattle.pl_scope.proofs.ScopeIndexLaws.{best_more, best_done, index_whole, none_keyed}
 use Rattle.pl_scope.proofs.lookup.first_indexed.Goals as goal
 
+below_same : (n a b : ℕ) → n < a → a ≡ b → n < b
+below_same n a b lt is = omega (arith, lt, is)
+
 pub returns-in_default : goal.returns-in_default
 returns-in_default c =
     let wanted = c.args.wanted.now in
     sym (none_keyed (objects c.args.scope.now) c.args.definers.now wanted.name.now wanted.class (option_map (λ x. x.now) wanted.version) c.args.start (length c.args.scope.now) c.requires.index (sym c.key_of.ensures ∙ c.in_default.is))
 
-pub members_under-requires : goal.members_under-requires
-members_under-requires c = c.requires.index.rising
+pub members_under-entry-items-requires : goal.members_under-entry-items-requires
+members_under-entry-items-requires c = c.requires.index.rising
 
-pub best_of-requires-clause-within : goal.best_of-requires-clause-within
-best_of-requires-clause-within c =
+pub best_of-best-requires-clause-within : goal.best_of-best-requires-clause-within
+best_of-best-requires-clause-within c =
     let os = objects c.args.scope.now in
     let items = c.members_under-entry-items.result.now in
     let all : All (λ (e : Entry). e.value < length os) items = c.members_under-entry-items.ensures.among (length os) c.requires.index.within in
-    let at = all c.loop-entry.entry-index c.entry-item.result c.loop-entry-test.true in
-    omega (arith, subst (λ (e : Entry). e.value < length os) (sym c.entry-item.is) at, length_objects c.args.scope.now)
+    below_same _ _ _ (all c.loop-entry.entry-index _ c.loop-entry-test.true) (length_objects c.args.scope.now)
 
-pub best_of-requires-clause-way : goal.best_of-requires-clause-way
-best_of-requires-clause-way c = c.requires.index
+pub best_of-best-requires-clause-way : goal.best_of-best-requires-clause-way
+best_of-best-requires-clause-way c = c.requires.index
 
 pub loop-entry-preserved : goal.loop-entry-preserved
 loop-entry-preserved c =

@@ -8,8 +8,8 @@ returns-in_default c =
     let wanted = c.args.wanted.now in
     sym (none_matches c.args.definers.now wanted.name.now wanted.class (option_map (λ x. x.now) wanted.version) c.args.member c.args.object.now c.requires.own (sym c.key_of.ensures ∙ c.in_default.is))
 
-pub own_at-requires : goal.own_at-requires
-own_at-requires c = own_below c.args.definers.now c.args.member c.args.object.now c.requires.own
+pub own_at-own-requires : goal.own_at-own-requires
+own_at-own-requires c = own_below c.args.definers.now c.args.member c.args.object.now c.requires.own
 
 pub matching_in_block-requires : goal.matching_in_block-requires
 matching_in_block-requires c =

@@ -19,7 +19,7 @@ loop-symbol-preserved c =
     elim c.if-is_definer.branch [
       | then-is_definer+in_ok-add_number w ↦
           rw w.numbers-is (definers_more o n s c.args.numbers.now front _ is (subst (λ (name : List ℕ). IsNumberAdded name front w.add_number.new.numbers) w.as_slice.ensures w.in_ok-add_number.ensures) c.loop-symbol.invariant)
-      | else-is_definer w ↦ rw w.numbers-is (definers_skip o n s c.args.numbers.now front is (sym c.is_definer.ensures ∙ w.if-is_definer.false) c.loop-symbol.invariant)
+      | else-is_definer w ↦ rw w.numbers-is (definers_skip o n s c.args.numbers.now front is (sym (rw c.is_program.ensures at c.is_definer.ensures) ∙ w.if-is_definer.false) c.loop-symbol.invariant)
     ]
 
 pub returns : goal.returns

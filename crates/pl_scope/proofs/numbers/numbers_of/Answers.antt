@@ -4,8 +4,8 @@ use Rattle.pl_scope.proofs.MemberLaws.{length_objects}
 use Rattle.pl_scope.proofs.NumberLaws.{all_done, all_hashed, all_more, all_none}
 use Rattle.pl_scope.proofs.numbers.numbers_of.Goals as goal
 
-pub returns-then-not-are_many : goal.returns-then-not-are_many
-returns-then-not-are_many c = all_hashed (objects c.args.scope.now)
+pub returns-then-not-branch : goal.returns-then-not-branch
+returns-then-not-branch c = all_hashed (objects c.args.scope.now)
 
 pub loop-member-init : goal.loop-member-init
 loop-member-init c = all_none (objects c.args.scope.now) c.new-numbers.result

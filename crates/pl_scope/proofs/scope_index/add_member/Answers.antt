@@ -11,7 +11,7 @@ loop-entry-preserved c =
     let new = c.add_key.new.members.items in
     let added = c.in_ok-add_key.ensures in
     record {
-      so_far = member_more c.args.own.now c.args.member c.loop-entry.entry-index c.entry-item.result key c.loop-entry.last c.args.members.now.items front new c.entry-item.is c.name_part-key.ensures added c.loop-entry.invariant.so_far c.loop-entry.invariant.last;
+      so_far = member_more c.args.own.now c.args.member c.loop-entry.entry-index _ key c.loop-entry.last c.args.members.now.items front new c.name_part-key.ensures added c.loop-entry.invariant.so_far c.loop-entry.invariant.last;
       last = member_last c.args.member key c.loop-entry.last front new added c.loop-entry.invariant.last;
     }
 
