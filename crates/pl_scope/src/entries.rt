@@ -4,7 +4,7 @@ ghost use Rattle.std.specs.List.Sorted.{IsNonDecreasingBy, IsPartitionPoint, IsP
 ghost use Rattle.pl_scope.specs.Entries as spec;
 
 /// A number that stands under a key.
-#[derive(Clone, Copy, Debug)]
+#[derive(Clone, Copy)]
 pub struct Entry {
     pub key: u64,
     pub value: u32,
