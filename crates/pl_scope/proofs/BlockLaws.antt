@@ -1,9 +1,8 @@
 -- The steps of a search for a name in the lists of an object's definers.
-use Rattle.std.proofs.Common.{◌≡◌, ◌≢◌, ℕ, ◌+◌, ◌<◌, ◌≤◌, ◌^◌, ◌*◌, Bool, true, false, not, ◌&&◌, ◌||◌, cond, List, [], ◌∷◌, ◌++◌, length, take, drop, get_or, Option, Some, None, refl, sym, ap, subst, ◌∙◌, arith, inl, inr}
-use Rattle.std.specs.Prelude.{slice_get, position, nat_lt, ◌==◌, IsSome, if◌then◌else◌}
+use Rattle.std.proofs.Common.{◌≡◌, ◌≢◌, ℕ, ◌+◌, ◌<◌, ◌≤◌, Bool, true, false, not, ◌&&◌, ◌||◌, cond, List, [], ◌∷◌, ◌++◌, length, take, drop, get_or, Option, Some, None, refl, sym, ap, subst, ◌∙◌, arith, inl, inr}
+use Rattle.std.specs.Prelude.{slice_get, position, ◌==◌, IsSome, if◌then◌else◌}
 use Rattle.std.specs.List.{list_any}
 use Rattle.std.specs.Option.{option_and_then}
-use Rattle.std.specs.Str.{bytes_eq}
 use Rattle.std.proofs.Math.Nat.{mod-lt}
 use Rattle.std.proofs.lemmas.Bool.{cases_Bool, false≢true, and_parts, or_cases, eqb-false, eqb-true}
 use Rattle.std.proofs.lemmas.List.{at_drop_more, at_drop_all, take_all, take_more}
@@ -18,7 +17,7 @@ use Rattle.pl_scope.specs.Definers.{pair, tag_of, IsList}
 use Rattle.pl_scope.specs.Entries.{is_entry, has_value, AreBetween, AreUnder}
 use Rattle.pl_scope.specs.Matching.{counts, defines, has_version, only}
 use Rattle.pl_scope.specs.Numbers.{key_of}
-use Rattle.pl_scope.specs.Probing.{another, lesser, least_from, passes_at, taken}
+use Rattle.pl_scope.specs.Probing.{another, lesser, least_from, taken}
 use Rattle.pl_scope.specs.declared.block.Block.{Block}
 use Rattle.pl_scope.specs.declared.definers.Listing.{Listing}
 use Rattle.pl_scope.specs.declared.definers.Listing.TheVariants as lists

@@ -1,6 +1,6 @@
 -- The walk of a member lies within the walk.
 use Rattle.std.proofs.Common.{◌≡◌, ℕ, zero, suc, ◌+◌, ◌<◌, ◌≤◌, Bool, true, false, List, [], ◌∷◌, ◌++◌, length, Option, Some, None, Result, Ok, refl, sym, ap, ◌∙◌, arith, inl, inr, append_assoc}
-use Rattle.std.specs.Prelude.{◌⊎◌, ◌&&◌, not, nat_lt, nat_le, slice_get, find}
+use Rattle.std.specs.Prelude.{◌&&◌, not, nat_lt, nat_le, slice_get, find}
 use Rattle.std.specs.List.{IsDistinct}
 use Rattle.std.specs.Option.{ok_or}
 use Rattle.std.specs.Str.{bytes_eq}

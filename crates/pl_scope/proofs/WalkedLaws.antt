@@ -1,21 +1,20 @@
 -- What each walk keeps: distinct names, few of them, and each needed name among them.
-use Rattle.std.proofs.Common.{◌≡◌, ℕ, zero, suc, ◌+◌, ◌≤◌, Bool, true, false, List, [], ◌∷◌, ◌++◌, length, Option, Some, None, Result, Ok, refl, sym, ap, subst, ◌∙◌, arith, inl, inr, append_assoc}
-use Rattle.std.specs.Prelude.{◌⊎◌, slice_get}
+use Rattle.std.proofs.Common.{◌≡◌, ℕ, zero, suc, ◌+◌, ◌≤◌, List, [], ◌∷◌, ◌++◌, length, Option, Some, None, Result, Ok, refl, sym, ap, subst, ◌∙◌, arith, inl, inr, append_assoc}
+use Rattle.std.specs.Prelude.{slice_get}
 use Rattle.std.specs.List.{IsDistinct}
 use Rattle.std.specs.Option.{ok_or}
 use Rattle.std.specs.Str.{bytes_eq}
-use Rattle.std.proofs.lemmas.Bool.{cases_Bool, false≢true}
-use Rattle.std.proofs.lemmas.List.{append-nil, length-append}
+use Rattle.std.proofs.lemmas.Bool.{cases_Bool}
+use Rattle.std.proofs.lemmas.List.{length-append}
 use Rattle.std.proofs.lemmas.Map.Keys.{IsDistinct-push}
 use Rattle.pl_scope.specs.declared.fault.WalkFault.TheVariants.{NotThere}
 use Rattle.pl_object.specs.declared.object.Object.{Object}
 use Rattle.pl_scope.specs.declared.fault.WalkFault.{WalkFault}
-use Rattle.pl_scope.specs.Walk.{Walked, walk, at_most, begun, walk_over, object_of, itself, added, next}
-use Rattle.pl_scope.specs.Members.{names, has, told, IsWalk, IsClosed, IsLinked, WalksAreWalks, WalksAreClosed, MembersWalkWithin, MembersTellWalks}
+use Rattle.pl_scope.specs.Walk.{Walked, walk, at_most, begun, object_of, itself, added}
+use Rattle.pl_scope.specs.Members.{names, has, told, WalksAreWalks, WalksAreClosed, MembersWalkWithin, MembersTellWalks}
 use Rattle.pl_scope.specs.declared.constants.TheConstants.{MAX_MEMBERS}
-use Rattle.pl_scope.specs.Walking.{Walking, wants}
+use Rattle.pl_scope.specs.Walking.{Walking}
 use Rattle.pl_base.specs.Each.{run}
-use Rattle.pl_base.specs.Answers.{◌>>=◌}
 use Rattle.pl_scope.proofs.NameLaws.{has_flip, has_at, eq_laws}
 use Rattle.pl_scope.proofs.StepLaws.{same_ok, bind_ok, step_cases, nothing_left, Entered, entered_is, Grown, grown, added_cases, walk_short, walk_local, walk_most}
 use Rattle.pl_scope.proofs.ClosureLaws.{WalkTells, walk_is, walk_told, MemberWalk, member_walk, ToldWalk, member_told, at_end, at_next}

@@ -1,6 +1,5 @@
-use Rattle.std.proofs.Common.{◌≡◌, ◌∙◌, ℕ, Bool, Option, Some, ap, cond, get_or}
+use Rattle.std.proofs.Common.{◌∙◌}
 use Rattle.pl_scope.specs.Block.{takes}
-use Rattle.pl_scope.specs.Probing.{lesser}
 use Rattle.pl_scope.proofs.BlockLaws.{first_of, least_done, least_more}
 use Rattle.pl_scope.proofs.block.first_picked.Goals as goal
 

@@ -1,6 +1,5 @@
-use Rattle.std.proofs.Common.{◌≡◌, ◌≤◌, ◌∙◌, ℕ, List, ap, subst, sym, arith, refl}
+use Rattle.std.proofs.Common.{◌≡◌, ℕ, List, subst, sym, arith}
 use Rattle.std.specs.List.Sorted.{IsNonDecreasingBy}
-use Rattle.pl_ver.specs.declared.constants.TheConstants.{VERSYM_HIDDEN}
 use Rattle.pl_scope.specs.Block.{end_of_name}
 use Rattle.pl_scope.specs.Definers.{pair}
 use Rattle.pl_scope.specs.Entries.{AreBetween}
