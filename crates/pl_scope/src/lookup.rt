@@ -241,7 +241,14 @@ fn first_indexed(
     };
     let mut best = None;
     for entry in members_under(definers, key) {
-        best = best_of(scope, wanted, start, best, entry.value, Way::Indexed(definers));
+        best = best_of(
+            scope,
+            wanted,
+            start,
+            best,
+            entry.value,
+            Way::Indexed(definers),
+        );
     }
     best
 }
