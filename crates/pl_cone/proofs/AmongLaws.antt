@@ -10,6 +10,7 @@ use Rattle.pl_scope.specs.Folder.{IsFolderIndex, position_in, position_of}
 use Rattle.pl_scope.specs.Index.{entries_of, is_entry}
 use Rattle.pl_scope.specs.Scope.{objects}
 use Rattle.pl_scope.specs.Walk.{Walked}
+use Rattle.pl_scope.specs.declared.entries.Entry.{Entry as Placed}
 use Rattle.pl_scope.specs.declared.index.Entry.{Entry}
 use Rattle.pl_scope.proofs.MemberLaws.{length_objects}
 use Rattle.pl_cone.specs.Table.{AreRows, IsIndexOfScope, IsWalkScope, folder_objects, positions_from, positions_of}
@@ -102,23 +103,23 @@ positions_below count rows r m at = omega (arith, below_from rows 0 (replicate c
 
 -- ---- the entries of a member
 
-abbrev entry_at : List (Option ℕ) → Entry → Option Entry
-entry_at positions e = option_map (λ p. record { hash = e.hash; member = p }) (position_of positions e)
+abbrev entry_at : List (Option ℕ) → Entry → Option Placed
+entry_at positions e = option_map (λ p. record { key = e.hash; value = p }) (position_of positions e)
 
 abbrev told : List (Option ℕ) → ℕ → List Entry → Bool
-told positions m es = list_any (λ e. e.member == m) (filter_map (entry_at positions) es)
+told positions m es = list_any (λ e. e.value == m) (filter_map (entry_at positions) es)
 
-made_is : (positions : List (Option ℕ)) (e : Entry) (r m : ℕ) → e.member ≡ r → position_in (slice_get positions r) ≡ Some m → entry_at positions e ≡ Some (record { hash = e.hash; member = m })
-made_is positions e r m same at = ap (option_map (λ (p : ℕ). record { hash = e.hash; member = p })) (ap (λ (k : ℕ). position_in (slice_get positions k)) same ∙ at)
+made_is : (positions : List (Option ℕ)) (e : Entry) (r m : ℕ) → e.member ≡ r → position_in (slice_get positions r) ≡ Some m → entry_at positions e ≡ Some (record { key = e.hash; value = m })
+made_is positions e r m same at = ap (option_map (λ (p : ℕ). record { key = e.hash; value = p })) (ap (λ (k : ℕ). position_in (slice_get positions k)) same ∙ at)
 
 told_here : (positions : List (Option ℕ)) (e : Entry) (es : List Entry) (r m : ℕ) → e.member ≡ r → position_in (slice_get positions r) ≡ Some m → told positions m (e ∷ es) ≡ true
 told_here positions e es r m same at =
-    ap (λ (x : Option Entry). list_any (λ (k : Entry). k.member == m) (cons_option x (filter_map (entry_at positions) es))) (made_is positions e r m same at)
+    ap (λ (x : Option Placed). list_any (λ (k : Placed). k.value == m) (cons_option x (filter_map (entry_at positions) es))) (made_is positions e r m same at)
     ∙ or_left (m == m) (told positions m es) (eq-eqb m m refl)
 
-told_by : (positions : List (Option ℕ)) (m : ℕ) (es : List Entry) (x : Option Entry) → told positions m es ≡ true → list_any (λ e. e.member == m) (cons_option x (filter_map (entry_at positions) es)) ≡ true
+told_by : (positions : List (Option ℕ)) (m : ℕ) (es : List Entry) (x : Option Placed) → told positions m es ≡ true → list_any (λ e. e.value == m) (cons_option x (filter_map (entry_at positions) es)) ≡ true
 told_by positions m es None any = any
-told_by positions m es (Some e) any = or_right (e.member == m) (told positions m es) any
+told_by positions m es (Some e) any = or_right (e.value == m) (told positions m es) any
 
 told_later : (positions : List (Option ℕ)) (e : Entry) (es : List Entry) (m : ℕ) → told positions m es ≡ true → told positions m (e ∷ es) ≡ true
 told_later positions e es m any = told_by positions m es (entry_at positions e) any
