@@ -76,6 +76,16 @@ loop-taken-preserved-in_default-2 c =
     let i = length c.loop-taken.yielded in
     absurd (some_left MayBe ts os i (into_iter_len c.loop-taken.outcomes) c.requires.may turn.0 c.loop-taken.invariant.2 c.in_default.ensures.cases.0)
 
+pub loop-taken-preserved : goal.loop-taken-preserved
+loop-taken-preserved c =
+    let ts = c.args.files in
+    let os = c.args.outcomes.items in
+    let given = c.into_iter-taken-iterator.ensures.into_iter_gives in
+    let items = c.into_vec-items.ensures in
+    let turn = YieldsList-turn (YieldsList-from_vec {s = c.into_iter-taken-iterator.result} ts (given.0 ∙ items) (given.1 ∙ (c.into_vec-items.result.ok.0 ∙ ap length items))) c.loop-taken.yielded c.loop-taken.taken-iterator c.loop-taken.yielded_by c.next.result c.next.new.self c.in-Some.taken c.in-Some.is c.next.ensures.steps in
+    let i = length c.loop-taken.yielded in
+    absurd (some_left MayBe ts os i (into_iter_len c.loop-taken.outcomes) c.requires.may turn.0 c.loop-taken.invariant.2 c.in_default.ensures.cases.0)
+
 pub returns : goal.returns
 returns c =
     let ts = c.args.files in
