@@ -64,7 +64,7 @@ impl Patches {
 
     /// The patches alone. It takes no memory.
     pub fn into_patches(self) -> Vec<Patch>
-        ensures { result.items ≡ self.entry }
+        ensures { result.items ≡ self }
     {
         let Patches {
             patches,

@@ -7,6 +7,7 @@ ghost use Rattle.pl_loader.specs.Faults.{is_memory, of_file};
 ghost use Rattle.pl_loader.specs.Loading.{IsLoadable, IsLoading, IsRead};
 ghost use Rattle.pl_loader.specs.Walk as spec;
 
+use crate::file_given::GivenParts;
 use crate::{GivenFile, LoadFault, Mark, ObjectFile};
 use pl_base::{Rows, Text};
 use pl_form::{File, FileFault, Marked, read_file};
@@ -106,9 +107,10 @@ fn named(alloc: Global, name: Text, file: GivenFile) -> Result<ObjectFile, LoadF
     ensures name { IfOk result (λ read. read.name ≡ name) }
 {
     let parts = file.into_parts();
-    match parts.object {
-        None => read_named(alloc, name, parts.bytes),
-        Some(object) => Ok(with_mark(name, parts.bytes, File::Plain(object))),
+    let GivenParts { bytes, object } = parts;
+    match object {
+        None => read_named(alloc, name, bytes),
+        Some(object) => Ok(with_mark(name, bytes, File::Plain(object))),
     }
 }
 

@@ -2,4 +2,5 @@ pub mod Words
 pub mod Pie
 pub mod Fix
 pub mod Laws
+pub mod ReadAs
 pub mod Placed

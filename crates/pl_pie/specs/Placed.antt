@@ -1,8 +1,7 @@
 -- A position-independent program fixed where a policy places it.
-use Rattle.std.specs.Prelude.{◌≡◌, ◌<◌, ◌^◌, ℕ, ⊤, length, List, Option, Some, None, Ok, if◌then◌else◌}
+use Rattle.std.specs.Prelude.{◌≡◌, ◌<◌, ◌^◌, ℕ, ⊤, length, List, Option, Some, None, if◌then◌else◌}
 use Rattle.pl_elf.specs.declared.range.Range.{Range}
 use Rattle.pl_form.specs.Files.{marked_in}
-use Rattle.pl_object.specs.Reads.{reads}
 use Rattle.pl_object.specs.declared.object.Object.{Object}
 use Rattle.pl_pie.specs.Fix.{MayBeFixed, fits, fixed_bytes, unfixed}
 use Rattle.pl_pie.specs.Pie.{pie}
@@ -65,11 +64,6 @@ abbrev pub IsSmall : Placing → Type 0
 IsSmall NotPie = ⊤
 IsSmall NoPlace = ⊤
 IsSmall (Fixed at bytes) = length bytes < 2 ^ 32
-
--- an object is read of bytes, which are no prelinked file
-pub record IsReadAs (bytes : List ℕ) (o : Object) : Type 0 where
-  pub read : reads bytes ≡ Ok o
-  pub bare : marked_in bytes ≡ None
 
 -- ---- laws
 

@@ -1,6 +1,6 @@
 // A program that was fixed, with the object that is read of it.
 ghost use Rattle.std.specs.Prelude.{◌≡◌};
-ghost use Rattle.pl_pie.specs.Placed as spec;
+ghost use Rattle.pl_pie.specs.ReadAs as spec;
 
 use pl_base::Rows;
 use pl_object::Object;
@@ -15,7 +15,7 @@ pub struct FixedProgram {
 
 impl Model for FixedProgram {
     ghost use Rattle.std.specs.Prelude.{List, ℕ};
-    ghost use Rattle.pl_pie.specs.Placed.{IsReadAs};
+    ghost use Rattle.pl_pie.specs.ReadAs.{IsReadAs};
 
     ghost Value = { List ℕ };
 

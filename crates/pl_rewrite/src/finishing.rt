@@ -1,5 +1,5 @@
 // What is made of files by their outcomes; each file is let go in its turn.
-ghost use Rattle.std.specs.Prelude.{◌≡◌, ◌++◌, [], ◌||◌, IfOk, OnOk, Some};
+ghost use Rattle.std.specs.Prelude.{◌≡◌, ◌++◌, [], ◌||◌, IfOk, OnOk, Some, if◌then◌else◌};
 ghost use Rattle.std.specs.List.{All, cons_option};
 ghost use Rattle.pl_cone.specs.Taken.{HasItsEntry, files_in, names_of};
 ghost use Rattle.pl_rewrite.specs.Changes as changes;

@@ -45,9 +45,7 @@ fn rising_ranges(alloc: Global, ranges: &[Range]) -> Result<Vec<Range>, AllocErr
 fn touches(range: &Range, start: u64) -> bool
     ensures { result ≡ spec.touches start range.now }
 {
-    range.start < range.end
-        && start < range.end
-        && u128::from(range.start) < u128::from(start) + 8
+    range.start < range.end && start < range.end && u128::from(range.start) < u128::from(start) + 8
 }
 
 /// Whether a word from an address on has an address of one of the ranges. The time grows as their number.

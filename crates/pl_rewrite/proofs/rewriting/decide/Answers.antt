@@ -4,6 +4,7 @@ use Rattle.pl_base.specs.Answers.{Answers}
 use Rattle.pl_cone.specs.Faulted.{is_memory}
 use Rattle.pl_cone.specs.Plans.{planned}
 use Rattle.pl_cone.specs.Taken.{AreTaken, files_in, names_of}
+use Rattle.pl_cone.specs.declared.fault.PlanningFault.{PlanningFault}
 use Rattle.pl_cone.specs.declared.taken.Taken.{Taken}
 use Rattle.pl_rewrite.proofs.FinishedLaws.{decided_is}
 use Rattle.pl_rewrite.proofs.rewriting.decide.Goals as goal
@@ -17,7 +18,8 @@ plan_of-requires c = c.in_ok-table.ensures.table c.args.asked.now.region (subst 
 pub returns-in_err-plan : goal.returns-in_err-plan
 returns-in_err-plan c =
     let p = err_from_is_err_and c.from_residual-in_err-plan.result c.from_residual-in_err-plan.ensures.1 in
-    rw (p.1, p.2) (subst (λ (ts : List Taken). Answers is_memory (Err _) (planned (files_in ts) (names_of ts) c.args.asked.now)) c.in_ok-table.ensures.files c.in_err-plan.ensures.planned)
+    rw p.1 (subst (λ (ts : List Taken). Answers is_memory (Err p.0) (planned (files_in ts) (names_of ts) c.args.asked.now)) c.in_ok-table.ensures.files
+    (subst (λ (e : PlanningFault). Answers is_memory (Err e) (planned (files_in c.in_ok-table.table.files.now) (names_of c.in_ok-table.table.files.now) c.args.asked.now)) (sym p.2) c.in_err-plan.ensures.planned))
 
 pub outcomes-requires : goal.outcomes-requires
 outcomes-requires c = record {

@@ -1,5 +1,5 @@
 use Rattle.std.proofs.Common.{ℕ, List, subst}
-use Rattle.pl_pie.specs.Placed.{IsReadAs}
+use Rattle.pl_pie.specs.ReadAs.{IsReadAs}
 use Rattle.pl_pie.proofs.program.FixedProgram.into_parts.Goals as goal
 
 pub returns-clause-read : goal.returns-clause-read
