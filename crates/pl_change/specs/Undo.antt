@@ -59,11 +59,6 @@ passes row u name = row name >>= λ more. Ok tt
 unfoldable pub all_pass : (List ℕ → Result (Option Change) Cause) → List (List ℕ) → Result (Unit {0}) Cause
 all_pass row names = run (passes row) tt names
 
--- names of which the same ones stand in both lists, and which pass or have their first cause alike
-pub record AsksSame (asked names : List (List ℕ)) : Type 0 where
-  pub among : (name : List ℕ) → has_name name names ≡ has_name name asked
-  pub pass : (row : List ℕ → Result (Option Change) Cause) → all_pass row names ≡ all_pass row asked
-
 -- of the folder's names those that were asked for
 abbrev pub if_asked : List (List ℕ) → Files → List ℕ → Result (Option Change) Cause
 if_asked asked files name = if has_name name asked then undo_asked files name else Ok None
