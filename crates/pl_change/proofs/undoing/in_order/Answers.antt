@@ -24,11 +24,11 @@ loop-name-preserved c =
     let n = string_bytes name in
     let rest = texts (drop (i + 1) names) in
     let old = c.loop-name.left in
-    let new = c.take.new.self in
+    let new = c.take-row.new.self in
     let found = c.loop-name.rows in
     let so_far = subst (λ (l : List (List ℕ)). InOrder all l c.args.looked old found) (names_from names i name c.loop-name-test.true c.name-item.is) c.loop-name.invariant in
-    let gone = subst (λ (m : List ℕ). IsPut old m None new) c.as_str.ensures.value c.take.ensures.gone in
-    let taken = c.take.ensures.row ∙ ap (λ (m : List ℕ). row_at old m) c.as_str.ensures.value in
+    let gone = subst (λ (m : List ℕ). IsPut old m None new) c.as_str.ensures.value c.take-row.ensures.gone in
+    let taken = c.take-row.ensures.row ∙ ap (λ (m : List ℕ). row_at old m) c.as_str.ensures.value in
     record {
       apart = order_rest all c.args.looked old n rest found so_far;
       is = next_added found c.add.new.rows (row_at old n) (filter_map (row_at new) rest) (filter_map (row_at c.args.looked) all) (subst (λ (o : Option Change). c.add.new.rows ≡ added found o) taken c.in_ok-add.ensures) (taken_out all c.args.looked old n rest found so_far new gone);
