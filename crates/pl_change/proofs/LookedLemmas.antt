@@ -10,7 +10,7 @@ use Rattle.std.specs.BTreeMap.{BTreeMap, IsEmpty, get_by, is_at}
 use Rattle.std.specs.Cmp.Lexicographic.{slice_cmp}
 use Rattle.std.specs.FinMap.{keys}
 use Rattle.std.specs.List.{AllByRecursion, IsDistinct, cons_option, filter_map}
-use Rattle.std.specs.Map.{lookup, update}
+use Rattle.std.specs.Map.{lookup}
 use Rattle.std.specs.Option.{option_flatten}
 use Rattle.std.specs.Ordering.{nat_cmp}
 use Rattle.std.specs.Prelude.{Result, Ok, Err, String, Vec, if◌then◌else◌, is_some}
@@ -20,9 +20,7 @@ use denote.Ref.{Bor}
 use Rattle.pl_base.specs.Answers.{◌>>=◌}
 use Rattle.pl_base.specs.Files.{Files}
 use Rattle.pl_base.proofs.TestLaws.{bytes_flip}
-use Rattle.pl_folder.specs.Calls.{Calls}
-use Rattle.pl_folder.specs.Seen.{Seen, Done}
-use Rattle.pl_journal.specs.Parts.{Looking}
+use Rattle.pl_folder.specs.Seen.{Seen}
 use Rattle.pl_journal.specs.declared.change.Change.{Change}
 use Rattle.pl_journal.proofs.CarryLemmas.{drop_at}
 use Rattle.pl_change.specs.Answers.{Finds}

@@ -1,4 +1,4 @@
-use Rattle.std.proofs.Common.{List, map, sym, ◌∙◌, ap, subst}
+use Rattle.std.proofs.Common.{List, map, sym, ◌∙◌, ap}
 use Rattle.std.specs.List.{filter_map}
 use Rattle.std.specs.Prelude.{string_bytes, String}
 use Rattle.std.specs.declared.alloc.Global.{Global}
