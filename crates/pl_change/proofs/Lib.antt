@@ -2,7 +2,6 @@ pub mod RoomLemmas
 pub mod FindLemmas
 pub mod RowLemmas
 pub mod UndoLemmas
-pub mod AskedLemmas
 pub mod StoreLemmas
 pub mod QuietLemmas
 pub mod StartLemmas
@@ -11,6 +10,7 @@ pub mod RestoredLemmas
 pub mod LentLemmas
 pub mod AgainLemmas
 pub mod OrderLemmas
+pub mod LookedLemmas
 pub mod CacheLemmas
 pub mod ReplaceLemmas
 pub mod CopyLemmas

@@ -57,6 +57,9 @@ unfolding IsDistinct
 by_bytes_distinct [] all = tt
 by_bytes_distinct (n ∷ ns) all = (differ_from n ns all.0, by_bytes_distinct ns all.1)
 
+pub distinct_names : (ns : List (List ℕ)) → ascend ns ≡ true → IsDistinct bytes_eq ns
+distinct_names ns e = by_bytes_distinct ns (IsDistinct-from_sorted by_bytes ns (sorted_from ns e))
+
 -- nor are two of those that pass a test
 pub distinct_from : (p : List ℕ → Bool) (ns : List (List ℕ)) → ascend ns ≡ true → IsDistinct bytes_eq (filter p ns)
 distinct_from p ns e = by_bytes_distinct (filter p ns) (IsDistinct-from_sorted by_bytes (filter p ns) (IsStrictlySortedBy-filter by_bytes p ns (sorted_from ns e)))

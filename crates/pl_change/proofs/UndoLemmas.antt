@@ -10,7 +10,7 @@ use Rattle.pl_folder.specs.Seen.{Seen}
 use Rattle.pl_form.specs.Files.{file_in}
 use Rattle.pl_journal.specs.declared.change.Change.{Change}
 use Rattle.pl_change.specs.Answers.{Finds, BatchMeansAlone}
-use Rattle.pl_change.specs.Names.{are_many, file_of, has_name}
+use Rattle.pl_change.specs.Names.{are_many, file_of}
 use Rattle.pl_change.specs.Undo.{all_pass, all_undone, asked_row, form_row, if_asked, if_valid, rows_of, undo_any, undo_asked, undone}
 use Rattle.pl_change.specs.declared.cause.Cause.{Cause}
 use Rattle.pl_change.specs.declared.cause.Cause.TheVariants as causes
@@ -61,14 +61,8 @@ module _ (name : List ℕ) where
     unfolding undo_any
     any_taken bytes r found alone = then_alone (file_of a.files name) items bytes (any_of name) r found alone
 
-    pub is_asked : (asked : List (List ℕ)) (r : Result Row BatchFault) → has_name name asked ≡ true → Finds (undo_asked a.files name) row r a b → Finds (if_asked asked a.files name) row r a b
-    is_asked asked r has found = same_found (if_asked asked a.files name) (undo_asked a.files name) row r (ap (λ (b : Bool). if b then undo_asked a.files name else Ok None) has) found
-
     pub is_valid : (r : Result Row BatchFault) → is_valid_name name ≡ true → Finds (undo_any a.files name) row r a b → Finds (if_valid a.files name) row r a b
     is_valid r valid found = same_found (if_valid a.files name) (undo_any a.files name) row r (ap (λ (b : Bool). if b then undo_any a.files name else Ok None) valid) found
-
-  pub not_asked : (a : Seen) (asked : List (List ℕ)) → has_name name asked ≡ false → Finds (if_asked asked a.files name) row (Ok None) a a
-  not_asked a asked has = record { means = λ t. ap (λ (b : Bool). if b then undo_asked a.files name else Ok None) has; calls = no_asking a }
 
   pub not_valid : (a : Seen) → is_valid_name name ≡ false → Finds (if_valid a.files name) row (Ok None) a a
   not_valid a invalid = record { means = λ t. ap (λ (b : Bool). if b then undo_any a.files name else Ok None) invalid; calls = no_asking a }

@@ -1,6 +1,7 @@
 pub mod Answers
 pub mod Names
 pub mod Undo
+pub mod Looked
 pub mod Store
 pub mod Quiet
 pub mod Commands

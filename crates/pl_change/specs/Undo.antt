@@ -1,5 +1,5 @@
 -- What undoing changes: a prelinked file gets its original.
-use Rattle.std.specs.Prelude.{◌≡◌, ℕ, not, List, [], ◌∷◌, ◌++◌, Option, Some, None, Result, Ok, Err, if◌then◌else◌}
+use Rattle.std.specs.Prelude.{ℕ, not, List, [], ◌∷◌, ◌++◌, Option, Some, None, Result, Ok, Err, if◌then◌else◌}
 use Rattle.std.specs.FinMap.{keys}
 use Rattle.pl_base.specs.Answers.{◌>>=◌, unless}
 use Rattle.pl_base.specs.Each.{run}
@@ -58,11 +58,6 @@ passes row u name = row name >>= λ more. Ok tt
 -- that none of these names has a cause, or the first
 unfoldable pub all_pass : (List ℕ → Result (Option Change) Cause) → List (List ℕ) → Result (Unit {0}) Cause
 all_pass row names = run (passes row) tt names
-
--- names of which the same ones stand in both lists, and which pass or have their first cause alike
-pub record AsksSame (asked names : List (List ℕ)) : Type 0 where
-  pub among : (name : List ℕ) → has_name name names ≡ has_name name asked
-  pub pass : (row : List ℕ → Result (Option Change) Cause) → all_pass row names ≡ all_pass row asked
 
 -- of the folder's names those that were asked for
 abbrev pub if_asked : List (List ℕ) → Files → List ℕ → Result (Option Change) Cause

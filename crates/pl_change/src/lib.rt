@@ -1,7 +1,6 @@
 //! What a command makes of single files of a folder: it recovers the folder, stores, removes, undoes, fixes or copies files, and makes the changes by the journal, all or none.
 #![tactic(auto)]
 
-mod asked;
 mod cache;
 mod cause;
 mod changes;
@@ -12,6 +11,7 @@ mod fixing;
 mod laws;
 mod lending;
 mod lent;
+mod looked;
 mod order;
 mod room;
 mod starting;

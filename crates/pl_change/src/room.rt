@@ -5,7 +5,7 @@ ghost use Rattle.std.specs.Str.{bytes_eq};
 ghost use Rattle.pl_base.specs.Names.{is_valid_name};
 ghost use Rattle.pl_change.specs.Names as spec;
 
-use pl_base::{Text, is_valid_name};
+use pl_base::is_valid_name;
 
 /// How many files with valid names a folder has at most.
 pub const FILES: usize = 1024;
@@ -24,13 +24,6 @@ pub(crate) fn has_name(names: &[String], name: &str) -> bool
     ensures { result ≡ spec.has_name name.now (map string_bytes names.now) }
 {
     has_file(names, name)
-}
-
-/// Whether a name is one of these that were asked for.
-pub(crate) fn is_among(asked: &[Text], name: &str) -> bool
-    ensures { result ≡ spec.has_name name.now asked.now }
-{
-    asked.iter().any(|other| name == other.as_str())
 }
 
 #[tactic(auto, using(crate::proofs::RoomLemmas::count_valid_map))]

@@ -1,13 +1,17 @@
 //! What undoing changes.
-ghost use Rattle.std.specs.Prelude.{◌≡◌, ◌<◌, ◌^◌, All, IfOk, OnOk, Ok, length, map, string_bytes};
+ghost use Rattle.std.specs.Prelude.{◌≡◌, ◌<◌, ◌^◌, All, IfOk, OnOk, Ok, length, map, string_bytes, true};
+ghost use Rattle.std.specs.List.{filter_map};
 ghost use Rattle.pl_base.specs.Names.{IsNameLength};
 ghost use Rattle.pl_form.specs.Files.{file_in};
 ghost use Rattle.pl_change.specs.Answers.{Finds, BatchMeansAlone};
 ghost use Rattle.pl_journal.specs.declared.change.Change.TheVariants.{Put};
+ghost use Rattle.pl_change.specs.Folder as folders;
+ghost use Rattle.pl_change.specs.Looked as looks;
 ghost use Rattle.pl_change.specs.Undo as spec;
 
-use crate::asked::distinct;
-use crate::room::{are_many, is_among};
+use crate::looked::Looked;
+use crate::order::ascend;
+use crate::room::are_many;
 use crate::taking::{list, take};
 use crate::{BatchFault, Cause};
 use pl_base::{Rows, Text, is_valid_name};
@@ -87,22 +91,6 @@ fn undo_any<D: Folder>(
     form_row(alloc, name, &bytes)
 }
 
-/// What undoing a name of the folder changes, or its first cause, where the name was asked for; nothing else.
-fn undo_if_asked<D: Folder>(
-    alloc: Global,
-    folder: &mut D,
-    name: &str,
-    asked: &[Text],
-) -> Result<Option<Change>, BatchFault>
-    ensures { Finds (spec.if_asked asked.now (D.seen folder.old).files name.now) (λ row. row) result
-        (D.seen folder.old) (D.seen folder.new) }
-{
-    if !is_among(asked, name) {
-        return Ok(None);
-    }
-    undo_asked(alloc, folder, name)
-}
-
 /// What undoing a name of the folder changes, or its first cause, where the name is valid; nothing else.
 fn undo_if_valid<D: Folder>(
     alloc: Global,
@@ -129,32 +117,58 @@ fn add(rows: &mut Rows<Change>, row: Option<Change>) -> Result<(), AllocError>
     }
 }
 
-/// The first cause of these names that were asked for.
-fn check_asked<D: Folder>(alloc: Global, folder: &mut D, asked: &[Text]) -> Result<(), BatchFault>
-    ensures { Finds (spec.all_pass (spec.undo_asked (D.seen folder.old).files) asked.now)
-        (λ u. u) result
+/// What undoing a name of the words changes is kept under it; or its first cause. A name that was looked at is not read again.
+fn look_at<'a, D: Folder>(
+    alloc: Global,
+    folder: &mut D,
+    looked: &mut Looked<'a>,
+    name: &'a str,
+) -> Result<(), BatchFault>
+    requires { (D.seen folder.old).tells ≡ true
+        → looks.AreFound (D.seen folder.old).files looked.old }
+    ensures passes { Finds (looks.passes_at (D.seen folder.old).files name.now) (λ u. u) result
         (D.seen folder.old) (D.seen folder.new) }
+    ensures found { OnOk result ((D.seen folder.old).tells ≡ true
+        → looks.AreFound (D.seen folder.old).files looked.new) }
+    ensures names { OnOk result (looks.HasMore looked.old name.now looked.new) }
 {
-    for name in asked {
-        undo_asked(alloc, folder, name.as_str())?;
+    if looked.has(name) {
+        return Ok(());
     }
+    let row = undo_asked(alloc, folder, name)?;
+    looked.put(name, row)?;
     Ok(())
 }
 
-/// The rows of those of the folder's names that were asked for.
-fn undo_those<D: Folder>(
+/// What undoing each of these names changes, or the first cause. Each file is read once.
+fn look_at_all<'a, D: Folder>(
     alloc: Global,
     folder: &mut D,
-    names: &[String],
-    asked: &[Text],
-) -> Result<Rows<Change>, BatchFault>
-    ensures { Finds (spec.rows_of (spec.if_asked asked.now (D.seen folder.old).files)
-        (map string_bytes names.now)) (λ rows. rows) result
-        (D.seen folder.old) (D.seen folder.new) }
+    asked: &'a [Text],
+) -> Result<Looked<'a>, BatchFault>
+    ensures passes { Finds (looks.pass_all (D.seen folder.old).files asked.now) looks.no_value
+        result (D.seen folder.old) (D.seen folder.new) }
+    ensures found { IfOk result (λ looked. (D.seen folder.old).tells ≡ true
+        → looks.AreFound (D.seen folder.old).files looked) }
+    ensures names { IfOk result (looks.Looks asked.now) }
 {
+    let mut looked = Looked::new(alloc);
+    for name in asked {
+        look_at(alloc, folder, &mut looked, name.as_str())?;
+    }
+    Ok(looked)
+}
+
+/// The rows of those of these names that were looked at and have one.
+fn in_order(alloc: Global, names: &[String], looked: Looked<'_>) -> Result<Rows<Change>, AllocError>
+    requires { folders.ascend (map string_bytes names.now) ≡ true }
+    ensures { IfOk result (λ rows. rows ≡ filter_map (looks.row_at looked.entry)
+        (map string_bytes names.now)) }
+{
+    let mut left = looked;
     let mut rows = Rows::new(alloc);
     for name in names {
-        let row = undo_if_asked(alloc, folder, name.as_str(), asked)?;
+        let row = left.take(name.as_str());
         add(&mut rows, row)?;
     }
     Ok(rows)
@@ -179,8 +193,10 @@ fn undo_all<D: Folder>(
     Ok(rows)
 }
 
-/// What undoing these names changes, each of which is read twice, or the first cause.
-fn undone_distinct<D: Folder>(
+/// The rows of the journal that give the prelinked ones of these names their originals, ascending by name. The first cause counts: TooManyFiles, then for each name in the order given BadName, NotThere, FileTooLarge, BadMark.
+///
+/// Each file is read once, however often it is named. A folder whose names do not ascend, as those of one that tells its files do, is refused as TooManyFiles. `DiskFailed` comes only where the folder failed. No call writes to the folder.
+pub fn undone<D: Folder>(
     alloc: Global,
     folder: &mut D,
     asked: &[Text],
@@ -192,23 +208,11 @@ fn undone_distinct<D: Folder>(
     if are_many(&names) {
         return Err(BatchFault::Cause(Cause::TooManyFiles));
     }
-    check_asked(alloc, folder, asked)?;
-    undo_those(alloc, folder, &names, asked)
-}
-
-/// The rows of the journal that give the prelinked ones of these names their originals, ascending by name. The first cause counts: TooManyFiles, then for each name in the order given BadName, NotThere, FileTooLarge, BadMark.
-///
-/// No file is read more often where it is named more often. `DiskFailed` comes only where the folder failed. No call writes to the folder.
-pub fn undone<D: Folder>(
-    alloc: Global,
-    folder: &mut D,
-    asked: &[Text],
-) -> Result<Rows<Change>, BatchFault>
-    ensures { Finds (spec.undone (D.seen folder.old).files asked.now) (λ rows. rows) result
-        (D.seen folder.old) (D.seen folder.new) }
-{
-    let names = distinct(alloc, asked)?;
-    undone_distinct(alloc, folder, &names)
+    if !ascend(&names) {
+        return Err(BatchFault::Cause(Cause::TooManyFiles));
+    }
+    let looked = look_at_all(alloc, folder, asked)?;
+    Ok(in_order(alloc, &names, looked)?)
 }
 
 /// The rows of the journal that give every prelinked file its original, ascending by name; a file that bears a mark and is no form stays as it is. The first cause counts: TooManyFiles, FileTooLarge in the order of the names.
