@@ -48,7 +48,7 @@ fn touches(alloc: Global, patches: &[Patch]) -> Result<Vec<Touch>, AllocError>
     ensures { IfOk result (λ touched. spec.IsIndexOf patches.now touched.items
         (length patches.now)) }
 {
-    let mut touched = Vec::new(alloc);
+    let mut touched = Vec::with_capacity(alloc, patches.len())?;
     for index in 0..patches.len() {
         add_touches(&mut touched, patches, index)?;
     }

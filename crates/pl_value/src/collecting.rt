@@ -81,6 +81,15 @@ fn add_each(
     Ok(())
 }
 
+/// How many relocations the members have. It only says how much room their meanings take.
+fn relocation_count(scope: &Scope<'_>) -> usize {
+    let mut count: usize = 0;
+    for member in 0..scope.count() {
+        count = count.saturating_add(scope.object(member).relocations.len());
+    }
+    count
+}
+
 /// The places of all relocations of a scope as loaded, and what they give, in scope order and in an object those of DT_RELA before those of DT_JMPREL; or the first of them that has no value. The conditions are those of `value` for every relocation.
 pub fn meanings(
     alloc: Global,
@@ -92,8 +101,8 @@ pub fn meanings(
     ensures { Answers spec.is_memory result (because Link
         (spec.meanings (objects scope.now) places.now tls.now)) }
 {
+    let mut meanings = Rows::from_vec(Vec::with_capacity(alloc, relocation_count(scope))?);
     let mut kept = Kept::new(alloc, scope)?;
-    let mut meanings = Rows::new(alloc);
     for member in 0..scope.count() {
         let object = scope.object(member);
         let relocs = object.relocations.as_slice();

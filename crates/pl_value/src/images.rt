@@ -72,7 +72,7 @@ fn push_some(patches: &mut Vec<Patch>, patch: Option<Patch>) -> Result<(), Alloc
 pub fn words(alloc: Global, meanings: &[Meaning]) -> Result<Vec<Patch>, AllocError>
     ensures { IfOk result (λ v. v.items ≡ linked.words meanings.now) }
 {
-    let mut patches = Vec::new(alloc);
+    let mut patches = Vec::with_capacity(alloc, meanings.len())?;
     for meaning in meanings {
         push_some(&mut patches, word_patch(alloc, meaning)?)?;
     }

@@ -18,7 +18,7 @@ add_each-requires-clause-references c =
 
 pub loop-member-init : goal.loop-member-init
 loop-member-init c = record {
-  so_far = rw c.new-meanings.ensures (front_nothing (each (meaning (objects c.args.scope.now) c.args.places.now c.args.tls.now) (rows (objects c.args.scope.now))));
+  so_far = rw (c.from_vec-meanings.ensures ∙ c.in_ok-with_capacity.ensures.items) (front_nothing (each (meaning (objects c.args.scope.now) c.args.places.now c.args.tls.now) (rows (objects c.args.scope.now))));
   same = c.in_ok-kept.ensures;
 }
 
