@@ -1,6 +1,7 @@
 pub mod FilePartLaws
 pub mod LoaderLaws
 pub mod NameLaws
+pub mod NamesReadLaws
 pub mod LoadLaws
 pub mod ExtentLaws
 pub mod ReadLaws
