@@ -15,3 +15,4 @@ pub mod TwinLaws
 pub mod KeyLaws
 pub mod PlaceLaws
 pub mod RefusalLaws
+pub mod PackedLaws
