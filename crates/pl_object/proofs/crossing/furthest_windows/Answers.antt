@@ -11,7 +11,7 @@ loop-window-init c = record {
 
 pub loop-window-preserved : goal.loop-window-preserved
 loop-window-preserved c =
-    furthest_more c.args.tables.now c.loop-window.window-index c.window-item.result c.loop-window.last c.further-last.result c.loop-window.all.items c.push-2.new.self.items c.loop-window-test.true c.window-item.is c.further-last.ensures c.in_ok-push-2.ensures.items c.loop-window.invariant
+    furthest_more c.args.tables.now c.loop-window.window-index c.window-item.result c.loop-window.last c.further-last.result c.loop-window.all.items c.push-in-loop-window.new.self.items c.loop-window-test.true c.window-item.is c.further-last.ensures c.in_ok-push-2.ensures.items c.loop-window.invariant
 
 pub returns : goal.returns
 returns c = furthest_done c.args.tables.now c.loop-window.window-index c.loop-window.last c.loop-window.all.items c.loop-window-test.false c.loop-window.invariant
