@@ -16,3 +16,4 @@ pub mod TwinLaws
 pub mod KeyLaws
 pub mod PlaceLaws
 pub mod RefusalLaws
+pub mod PackedLaws
