@@ -54,12 +54,12 @@ more_read strings old new at name are kept is = λ other found e. kept_by string
 
 -- ---- a loop over the rows that pass a test
 
-module _ {A B E : Type 0} (f : A → Result B E) (p : A → Bool) (xs : List A) (i : ℕ) (x : A) (front : List B) (whole : Result (List B) E) (lt : i < length xs) (at : x ≡ get_or xs i x)
+module _ {A B E : Type 0} (f : A → Result B E) (p : A → Bool) (xs : List A) (i : ℕ) (x other : A) (front : List B) (whole : Result (List B) E) (lt : i < length xs) (at : x ≡ get_or xs i other)
     (so_far : with_front front (each f (filter p (drop i xs))) ≡ whole) where
   here : (b : Bool) → p x ≡ b → with_front front (each f (cond b (x ∷ filter p (drop (i + 1) xs)) (filter p (drop (i + 1) xs)))) ≡ whole
   here b is =
       let step : with_front front (each f (filter p (drop i xs))) ≡ with_front front (each f (filter p (x ∷ drop (i + 1) xs))) =
-      at_drop_more (λ (zs : List A). with_front front (each f (filter p zs))) xs i x lt ∙ ap (λ (z : A). with_front front (each f (filter p (z ∷ drop (i + 1) xs)))) (sym at) in
+      at_drop_more (λ (zs : List A). with_front front (each f (filter p zs))) xs i other lt ∙ ap (λ (z : A). with_front front (each f (filter p (z ∷ drop (i + 1) xs)))) (sym at) in
       ap (λ (c : Bool). with_front front (each f (cond c (x ∷ filter p (drop (i + 1) xs)) (filter p (drop (i + 1) xs))))) (sym is) ∙ sym step ∙ so_far
 
   -- one that passes gives a result

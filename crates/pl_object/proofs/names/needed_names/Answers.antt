@@ -1,4 +1,4 @@
-use Rattle.std.proofs.Common.{◌∙◌, sym}
+use Rattle.std.proofs.Common.{◌∙◌, refl, sym}
 use Rattle.std.proofs.lemmas.Result.{err_from_is_err_and}
 use Rattle.std.specs.Prelude.{filter}
 use Rattle.pl_base.specs.Each.{each}
@@ -27,7 +27,7 @@ returns-in_err-name c =
     let tags = c.args.tags.now in
     let p = err_from_is_err_and c.from_residual-in_err-name.result c.from_residual-in_err-name.ensures.1 in
     rw (p.1, p.2) (
-      kept_fails f (has_number DT_NEEDED) tags c.loop-tag.tag-index c.tag-item.result c.loop-tag.names (each f (filter (has_number DT_NEEDED) tags)) c.loop-tag-test.true c.tag-item.is c.loop-tag.invariant.rest
+      kept_fails f (has_number DT_NEEDED) tags c.loop-tag.tag-index _ _ c.loop-tag.names (each f (filter (has_number DT_NEEDED) tags)) c.loop-tag-test.true refl c.loop-tag.invariant.rest
       is_memory _ (sym c.is_needed.ensures ∙ c.if-is_needed.true) c.in_err-name.ensures.name
     )
 
@@ -36,19 +36,18 @@ loop-tag-preserved c =
     let f = needed_name c.args.strings.now in
     let tags = c.args.tags.now in
     let i = c.loop-tag.tag-index in
-    let tag = c.tag-item.result in
     let front = c.loop-tag.names in
     let whole = each f (filter (has_number DT_NEEDED) tags) in
     let rest = c.loop-tag.invariant.rest in
     elim c.if-is_needed.branch [
       | then-is_needed+in_ok-name+in_ok-push w ↦
           rw (w.names-is, w.read-is) (record {
-            rest = rw w.in_ok-push.ensures.ok (kept_more f (has_number DT_NEEDED) tags i tag front whole c.loop-tag-test.true c.tag-item.is rest _ (sym c.is_needed.ensures ∙ w.if-is_needed.true) w.in_ok-name.ensures.name);
+            rest = rw w.in_ok-push.ensures.ok (kept_more f (has_number DT_NEEDED) tags i _ _ front whole c.loop-tag-test.true refl rest _ (sym c.is_needed.ensures ∙ w.if-is_needed.true) w.in_ok-name.ensures.name);
             read = w.in_ok-name.ensures.read;
           })
       | else-is_needed w ↦
           rw (w.names-is, w.read-is) (record {
-            rest = kept_past f (has_number DT_NEEDED) tags i tag front whole c.loop-tag-test.true c.tag-item.is rest (sym c.is_needed.ensures ∙ w.if-is_needed.false);
+            rest = kept_past f (has_number DT_NEEDED) tags i _ _ front whole c.loop-tag-test.true refl rest (sym c.is_needed.ensures ∙ w.if-is_needed.false);
             read = c.loop-tag.invariant.read;
           })
     ]
