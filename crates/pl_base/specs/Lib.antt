@@ -5,6 +5,7 @@ pub mod Below
 pub mod Counts
 pub mod Streams
 pub mod Strings
+pub mod Text
 pub mod Names
 pub mod Files
 pub mod Digits

@@ -1,6 +1,7 @@
 pub mod FilePartLaws
 pub mod LoaderLaws
 pub mod NameLaws
+pub mod NamesReadLaws
 pub mod LoadLaws
 pub mod ExtentLaws
 pub mod ReadLaws
@@ -15,3 +16,4 @@ pub mod TwinLaws
 pub mod KeyLaws
 pub mod PlaceLaws
 pub mod RefusalLaws
+pub mod PackedLaws

@@ -3,6 +3,7 @@ pub mod FilePart
 pub mod Tables
 pub mod TableClauses
 pub mod Names
+pub mod NamesRead
 pub mod Relocations
 pub mod SymbolClauses
 pub mod PlaceClauses

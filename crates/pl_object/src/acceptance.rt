@@ -1,4 +1,4 @@
-ghost use Rattle.std.specs.Prelude.{◌≡◌, ◌<◌, ◌≤◌, ◌^◌, ◌∷◌, ◌++◌, length, map, false, IfOk};
+ghost use Rattle.std.specs.Prelude.{◌≡◌, ◌<◌, ◌≤◌, ◌^◌, ◌∷◌, ◌++◌, length, map, false, IfOk, OnOk};
 ghost use Rattle.std.specs.List.{All};
 ghost use Rattle.pl_base.specs.Answers.{Answers, AnswersAs, NeverMemory, because};
 ghost use Rattle.pl_base.specs.Windows.{end_of};
@@ -22,7 +22,7 @@ use crate::names::{read_needed, strings, symbols, versioned, versions};
 use crate::parts::{align, check_rest, is_symbolic, kind_of, span, tls, too_large};
 use crate::place_clauses::check_relocs;
 use crate::ranges::ranges_of;
-use crate::relocations::{packed_relocs, relocs};
+use crate::relocations::{add_packed, relocs};
 use crate::symbol_clauses::{check_symbols, hash_tables};
 use crate::table_clauses::{check_tables, relr_table};
 use crate::tables::{link_windows, sections_window, static_windows};
@@ -116,19 +116,20 @@ fn table_relocs(
     Ok(all)
 }
 
-/// The relocations of packed places.
-fn place_relocs(
+/// Adds the relocations of packed places.
+fn add_places(
     alloc: Global,
+    all: &mut Vec<Reloc>,
     bytes: &[u8],
     segments: &[Segment],
     packed: &[u64],
-) -> Result<Vec<Reloc>, AllocError>
+) -> Result<(), AllocError>
     requires { AreLoads (loads segments.now) }
-    ensures { IfOk result (λ v. v.items
-        ≡ rows.packed_relocs bytes.now segments.now packed.now) }
+    ensures { OnOk result (all.new.items
+        ≡ all.old.items ++ rows.packed_relocs bytes.now segments.now packed.now) }
 {
     let loads = Loads::new(alloc, segments)?;
-    packed_relocs(alloc, bytes, &loads, packed)
+    add_packed(all, bytes, &loads, packed)
 }
 
 /// The relocations of both tables of rows, then those of the packed places.
@@ -147,8 +148,7 @@ fn relocations(
         symbols.now) }
 {
     let mut all = table_relocs(alloc, bytes, segments, tags, symbols)?;
-    let packed = place_relocs(alloc, bytes, segments, packed)?;
-    all.extend_from_slice(&packed)?;
+    add_places(alloc, &mut all, bytes, segments, packed)?;
     Ok(all)
 }
 

@@ -1,7 +1,5 @@
-// Tables and spots that share a byte.
-ghost use Rattle.std.specs.Prelude.{◌≡◌, ◌++◌, false, length, map, nat_lt, true, IfOk};
-ghost use Rattle.std.specs.List.{list_any};
-ghost use Rattle.std.specs.List.Sorted.{IsNonDecreasingBy, IsPermutation};
+// Windows that share a byte with a table.
+ghost use Rattle.std.specs.Prelude.{◌≡◌, nat_lt, IfOk};
 ghost use Rattle.pl_base.specs.Windows.{end_of};
 ghost use Rattle.pl_object.specs.FilePart.{nothing};
 ghost use Rattle.pl_object.specs.TableClauses.{meets};
@@ -10,50 +8,13 @@ ghost use Rattle.pl_object.specs.Crossing as spec;
 use crate::Window;
 use std::alloc::{AllocError, Global};
 
-/// A table or a spot.
-#[derive(Clone, Copy, Debug)]
-pub struct TaggedWindow {
-    pub window: Window,
-    pub is_table: bool,
-}
+/// Tables in the order of where they begin.
+#[derive(Clone, Copy)]
+pub struct SortedTables<'a> {
+    pub tables: &'a [Window],
 
-fn tagged_of(
-    alloc: Global,
-    windows: &[Window],
-    is_table: bool,
-) -> Result<Vec<TaggedWindow>, AllocError>
-    ensures { IfOk result (λ v. v.items ≡ map (spec.tagged is_table) windows.now) }
-{
-    windows
-        .iter()
-        .map(|window| TaggedWindow {
-            window: *window,
-            is_table,
-        })
-        .collect(alloc)
-}
-
-fn tagged_windows(
-    alloc: Global,
-    tables: &[Window],
-    spots: &[Window],
-) -> Result<Vec<TaggedWindow>, AllocError>
-    ensures { IfOk result (λ v. v.items ≡ map (spec.tagged true) tables.now
-        ++ map (spec.tagged false) spots.now) }
-{
-    let mut tagged_windows = tagged_of(alloc, tables, true)?;
-    let more = tagged_of(alloc, spots, false)?;
-    tagged_windows.extend_from_slice(&more)?;
-    Ok(tagged_windows)
-}
-
-/// Puts tagged windows into the order of where they begin.
-fn sort_tagged(tagged_windows: &mut [TaggedWindow])
-    ensures same { IsPermutation tagged_windows.old tagged_windows.new }
-    ensures len { length tagged_windows.new ≡ length tagged_windows.old }
-    ensures rising { IsNonDecreasingBy (λ m. m.window.at) tagged_windows.new }
-{
-    tagged_windows.sort_unstable_by_key(|tagged| tagged.window.at());
+    /// For each number of tables, from 0 on, the one of so many first tables whose bytes end last.
+    pub furthest: &'a [Window],
 }
 
 /// Whether a window ends after another.
@@ -90,54 +51,36 @@ fn is_met(last: Window, window: &Window) -> bool
         && (window.at() < last.at() || window.at() - last.at() < u128::from(last.size()))
 }
 
-fn other(table: Window, spot: Window, tagged: &TaggedWindow) -> Window
-    ensures { result ≡ spec.other table spot tagged.now }
+/// Whether a table begins before the end of a window.
+fn begins_before(table: &Window, window: &Window) -> bool
+    ensures { result ≡ nat_lt table.now.at (end_of window.now) }
 {
-    if tagged.is_table { spot } else { table }
+    table.at() < window.at() || table.at() - window.at() < u128::from(window.size())
 }
 
-fn table_after(table: Window, tagged: &TaggedWindow) -> Window
-    ensures { result ≡ spec.table_after table tagged.now }
+/// For each number of tables, from 0 on, the one of so many first tables whose bytes end last.
+pub fn furthest_windows(alloc: Global, tables: &[Window]) -> Result<Vec<Window>, AllocError>
+    ensures { IfOk result (λ v. v.items ≡ spec.furthest_windows nothing tables.now) }
 {
-    if tagged.is_table {
-        further(table, &tagged.window)
-    } else {
-        table
+    let mut last = Window::new(0, 0);
+    let mut all = Vec::new(alloc);
+    all.push(last)?;
+    for window in tables {
+        last = further(last, window);
+        all.push(last)?;
     }
+    Ok(all)
 }
 
-fn spot_after(spot: Window, tagged: &TaggedWindow) -> Window
-    ensures { result ≡ spec.spot_after spot tagged.now }
-{
-    if tagged.is_table {
-        spot
-    } else {
-        further(spot, &tagged.window)
+impl SortedTables<'_> {
+    /// Whether a window shares a byte with a table. The time grows as the logarithm of their number.
+    pub fn meet(&self, window: Window) -> bool
+        requires { spec.AreSorted self.now }
+        ensures { result ≡ meets self.now.tables.now window }
+    {
+        let tables = self.tables;
+        let furthest = self.furthest;
+        let count = tables.partition_point(|table| begins_before(table, &window));
+        is_met(furthest[count], &window)
     }
-}
-
-/// Whether a table and a spot share a byte, of tagged windows in the order of where they begin.
-#[tactic(auto, using(crate::proofs::CrossingLaws::cross_done))]
-fn cross(tagged_windows: &[TaggedWindow]) -> bool
-    ensures { result ≡ spec.cross nothing nothing tagged_windows.now }
-{
-    let mut table = Window::new(0, 0);
-    let mut spot = Window::new(0, 0);
-    for tagged in tagged_windows {
-        if is_met(other(table, spot, tagged), &tagged.window) {
-            return true;
-        }
-        table = table_after(table, tagged);
-        spot = spot_after(spot, tagged);
-    }
-    false
-}
-
-/// Whether one of the spots shares a byte with one of the tables. All are sorted once: the time grows as `n log n`.
-pub fn any_meets(alloc: Global, tables: &[Window], spots: &[Window]) -> Result<bool, AllocError>
-    ensures { IfOk result (λ b. b ≡ list_any (meets tables.now) spots.now) }
-{
-    let mut sorted = tagged_windows(alloc, tables, spots)?;
-    sort_tagged(&mut sorted);
-    Ok(cross(&sorted))
 }

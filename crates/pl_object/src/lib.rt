@@ -13,6 +13,7 @@ mod linking;
 mod loads;
 mod named;
 mod names;
+mod names_read;
 mod object;
 mod overlaps;
 mod parts;

@@ -1,13 +1,14 @@
 // Acceptance clauses 15 to 18: the names of needed libraries, of symbols and of versions.
-ghost use Rattle.std.specs.Prelude.{◌≡◌, ◌<◌, ◌≤◌, ◌^◌, length, filter, IfOk};
+ghost use Rattle.std.specs.Prelude.{◌≡◌, ◌<◌, ◌≤◌, ◌^◌, length, IfOk, OnOk};
 ghost use Rattle.pl_base.specs.Answers.{Answers};
-ghost use Rattle.pl_base.specs.Each.{each};
 ghost use Rattle.pl_dyn.specs.Read.{has_number};
+ghost use Rattle.pl_object.specs.NamesRead.{AreRead};
 ghost use Rattle.pl_object.specs.Refusals.{is_memory};
 ghost use Rattle.pl_object.specs.Names as spec;
 
 use crate::Refusal;
 use crate::file_part::loaded;
+use crate::names_read::NamesRead;
 use crate::tags::{has_tag, section_memory, strings_memory, symbols_memory, value};
 use pl_base::{Rows, Text, string_at, valid_text};
 use pl_dyn::constants::{DT_NEEDED, DT_VERDEF, DT_VERDEFNUM, DT_VERNEED, DT_VERNEEDNUM, DT_VERSYM};
@@ -27,36 +28,70 @@ fn needed_name(alloc: Global, strings: &[u8], tag: &Tag) -> Result<Text, Refusal
     };
     match valid_text(bytes) {
         None => Err(Refusal::clause(15)),
-        Some(name) => Ok(Text::copy_of(alloc, name)?),
+        Some(name) => Ok(Text::to_share(alloc, name)?),
     }
 }
 
-fn needed_tags(alloc: Global, tags: &[Tag]) -> Result<Vec<Tag>, AllocError>
-    ensures { IfOk result (λ v. v.items ≡ filter (has_number DT_NEEDED) tags.now) }
+/// Reads the name of a tag's library, and keeps it.
+fn read_name(
+    alloc: Global,
+    read: &mut NamesRead,
+    strings: &[u8],
+    tag: &Tag,
+) -> Result<Text, Refusal>
+    requires { AreRead strings.now read.old }
+    ensures name { Answers is_memory result (spec.needed_name strings.now tag.now) }
+    ensures read { OnOk result (AreRead strings.now read.new) }
 {
-    tags.iter()
-        .copied()
-        .filter(|tag| tag.number == DT_NEEDED)
-        .collect(alloc)
+    let name = needed_name(alloc, strings, tag)?;
+    read.keep(alloc, tag.value, &name)?;
+    Ok(name)
 }
 
-fn needed_names(alloc: Global, tags: &[Tag], strings: &[u8]) -> Result<Rows<Text>, Refusal>
-    ensures { Answers is_memory result (each (spec.needed_name strings.now) tags.now) }
+/// The name of a tag's library. One that was read at its offset before is not read again.
+fn name_at(alloc: Global, read: &mut NamesRead, strings: &[u8], tag: &Tag) -> Result<Text, Refusal>
+    requires { AreRead strings.now read.old }
+    ensures name { Answers is_memory result (spec.needed_name strings.now tag.now) }
+    ensures read { OnOk result (AreRead strings.now read.new) }
 {
-    let mut names = Rows::new(alloc);
+    match read.again(alloc, tag.value)? {
+        Some(name) => Ok(name),
+        None => read_name(alloc, read, strings, tag),
+    }
+}
+
+fn is_needed(tag: &Tag) -> bool
+    ensures { result ≡ has_number DT_NEEDED tag.now }
+{
+    tag.number == DT_NEEDED
+}
+
+/// How many tags are those of needed libraries.
+fn needed_count(tags: &[Tag]) -> usize {
+    tags.iter().filter(|tag| is_needed(tag)).count()
+}
+
+/// The names of the needed libraries, in the order of their tags. Names that begin at one offset share their memory.
+#[tactic(auto, unfolding(crate::specs::Names::needed))]
+fn needed_names(alloc: Global, tags: &[Tag], strings: &[u8]) -> Result<Rows<Text>, Refusal>
+    ensures { Answers is_memory result (spec.needed tags.now strings.now) }
+{
+    let mut names = Rows::from_vec(Vec::with_capacity(alloc, needed_count(tags))?);
+    let mut read = NamesRead::new(alloc);
     for tag in tags {
-        names.push(needed_name(alloc, strings, tag)?)?;
+        if is_needed(tag) {
+            let name = name_at(alloc, &mut read, strings, tag)?;
+            names.push(name)?;
+        }
     }
     Ok(names)
 }
 
 /// The names of the needed libraries, in the order of their tags (gABI chapter 5, "Dynamic Section"): acceptance clause 15 where one has no end inside the strings or is no valid name.
-#[tactic(auto, unfolding(crate::specs::Names::needed))]
 pub fn read_needed(alloc: Global, dynamic: &Dynamic, strings: &[u8]) -> Result<Rows<Text>, Refusal>
     ensures { Answers is_memory result (spec.needed dynamic.now.tags strings.now) }
 {
-    let tags = needed_tags(alloc, dynamic.tags.as_slice())?;
-    needed_names(alloc, &tags, strings)
+    needed_names(alloc, dynamic.tags.as_slice(), strings)
 }
 
 /// The strings that symbols, needed libraries and versions are named by.

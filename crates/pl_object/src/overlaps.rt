@@ -1,5 +1,5 @@
 // Windows that share a byte.
-ghost use Rattle.std.specs.Prelude.{◌≡◌, length, IfOk};
+ghost use Rattle.std.specs.Prelude.{◌≡◌, IfOk};
 ghost use Rattle.std.specs.List.Sorted.{IsNonDecreasingBy, IsPermutation};
 ghost use Rattle.pl_base.specs.Windows as spec;
 ghost use Rattle.pl_object.specs.FilePart.{nothing};
@@ -30,19 +30,28 @@ fn sweep(windows: &[Window]) -> bool
 }
 
 /// Puts windows into the order of where they begin.
-fn sort_windows(windows: &mut [Window])
-    ensures same { IsPermutation windows.old windows.new }
-    ensures len { length windows.new ≡ length windows.old }
-    ensures rising { IsNonDecreasingBy (λ w. w.at) windows.new }
+fn sort_windows(windows: &mut Vec<Window>)
+    ensures same { IsPermutation windows.old.items windows.new.items }
+    ensures rising { IsNonDecreasingBy (λ w. w.at) windows.new.items }
 {
     windows.sort_unstable_by_key(Window::at);
 }
 
-/// Whether two of the windows share a byte. They are sorted once: the time grows as `n log n`.
-pub fn any_share(alloc: Global, windows: &[Window]) -> Result<bool, AllocError>
-    ensures { IfOk result (λ b. b ≡ spec.any_share windows.now) }
+/// A copy of windows in the order of where they begin.
+pub fn sorted_windows(alloc: Global, windows: &[Window]) -> Result<Vec<Window>, AllocError>
+    ensures same { IfOk result (λ v. IsPermutation windows.now v.items) }
+    ensures rising { IfOk result (λ v. IsNonDecreasingBy (λ w. w.at) v.items) }
 {
     let mut sorted = Vec::from_slice(alloc, windows)?;
     sort_windows(&mut sorted);
-    Ok(sweep(&sorted))
+    Ok(sorted)
+}
+
+/// Whether two of the windows share a byte. They are sorted where they stand: the time grows as `n log n`.
+pub fn any_share(windows: Vec<Window>) -> bool
+    ensures { result ≡ spec.any_share windows.items }
+{
+    let mut sorted = windows;
+    sort_windows(&mut sorted);
+    sweep(&sorted)
 }

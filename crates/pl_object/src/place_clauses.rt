@@ -1,15 +1,18 @@
 // Acceptance clauses 23 to 27 and 29: relocations, and the places that they change. A test is true where the clause refuses the file.
 ghost use Rattle.std.specs.Prelude.{◌≡◌, if◌then◌else◌, Some, IfOk};
+ghost use Rattle.std.specs.List.{list_any};
 ghost use Rattle.pl_elf.specs.Clauses.{AreLoads};
 ghost use Rattle.pl_elf.specs.Headers.{is_load, loads};
 ghost use Rattle.pl_base.specs.Answers.{Answers};
+ghost use Rattle.pl_object.specs.Crossing.{AreSorted};
 ghost use Rattle.pl_object.specs.Refusals.{is_memory};
+ghost use Rattle.pl_object.specs.TableClauses.{meets};
 ghost use Rattle.pl_object.specs.PlaceClauses as spec;
 
 use crate::constants::RELOC_KINDS;
-use crate::crossing::any_meets;
+use crate::crossing::{SortedTables, furthest_windows};
 use crate::loads::Loads;
-use crate::overlaps::any_share;
+use crate::overlaps::{any_share, sorted_windows};
 use crate::relocations::{place, places};
 use crate::{Refusal, Reloc, Window};
 use pl_base::end;
@@ -109,24 +112,23 @@ fn any_place_outside(program: bool, loads: &Loads, packed: u32, relocs: &[Reloc]
 fn reloc_overlap(alloc: Global, relocs: &[Reloc]) -> Result<bool, AllocError>
     ensures { IfOk result (λ b. b ≡ spec.reloc_overlap relocs.now) }
 {
-    let places = places(alloc, relocs)?;
-    any_share(alloc, &places)
+    Ok(any_share(places(alloc, relocs)?))
 }
 
-/// The file bytes of the places.
+/// Whether the file bytes of a place share a byte with a table.
 #[tactic(auto, unfolding(crate::specs::PlaceClauses::spots))]
-fn spots(alloc: Global, loads: &Loads, relocs: &[Reloc]) -> Result<Vec<Window>, AllocError>
-    ensures { IfOk result (λ v. v.items ≡ spec.spots loads.now relocs.now) }
+fn any_in_tables(tables: &SortedTables<'_>, loads: &Loads, relocs: &[Reloc]) -> bool
+    requires { AreSorted tables.now }
+    ensures { result ≡ list_any (meets tables.now.tables.now) (spec.spots loads.now relocs.now) }
 {
     relocs
         .iter()
         .map(place)
         .map(|memory| loads.file_window(memory))
-        .collect(alloc)
+        .any(|spot| tables.meet(spot))
 }
 
 /// Clause 26.
-#[tactic(auto, unfolding(crate::specs::PlaceClauses::reloc_in_tables))]
 fn reloc_in_tables(
     alloc: Global,
     tables: &[Window],
@@ -135,8 +137,13 @@ fn reloc_in_tables(
 ) -> Result<bool, AllocError>
     ensures { IfOk result (λ b. b ≡ spec.reloc_in_tables tables.now loads.now relocs.now) }
 {
-    let spots = spots(alloc, loads, relocs)?;
-    any_meets(alloc, tables, &spots)
+    let sorted = sorted_windows(alloc, tables)?;
+    let furthest = furthest_windows(alloc, &sorted)?;
+    let tables = SortedTables {
+        tables: sorted.as_slice(),
+        furthest: furthest.as_slice(),
+    };
+    Ok(any_in_tables(&tables, loads, relocs))
 }
 
 #[tactic(auto, unfolding(crate::specs::PlaceClauses::is_odd))]

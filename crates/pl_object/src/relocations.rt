@@ -1,5 +1,5 @@
 // The relocations of a table.
-ghost use Rattle.std.specs.Prelude.{◌≡◌, ◌+◌, ◌*◌, ◌≤◌, length, slice_get, IfOk};
+ghost use Rattle.std.specs.Prelude.{◌≡◌, ◌+◌, ◌++◌, ◌*◌, ◌≤◌, length, slice_get, IfOk, OnOk};
 ghost use Rattle.pl_object.specs.Relocations as spec;
 
 use crate::loads::Loads;
@@ -104,20 +104,21 @@ fn packed_reloc(bytes: &[u8], loads: &Loads, address: u64) -> Reloc
     }
 }
 
-/// The relocations of packed places, in their order.
-#[tactic(auto, unfolding(crate::specs::Relocations::packed_relocs))]
-pub fn packed_relocs(
-    alloc: Global,
+/// Adds the relocations of packed places, in their order.
+pub fn add_packed(
+    relocs: &mut Vec<Reloc>,
     bytes: &[u8],
     loads: &Loads,
     addresses: &[u64],
-) -> Result<Vec<Reloc>, AllocError>
-    ensures { IfOk result (λ v. v.items ≡ spec.packed_relocs bytes.now loads.now addresses.now) }
+) -> Result<(), AllocError>
+    ensures { OnOk result (relocs.new.items ≡ relocs.old.items
+        ++ spec.packed_relocs bytes.now loads.now addresses.now) }
 {
-    addresses
-        .iter()
-        .map(|address| packed_reloc(bytes, loads, *address))
-        .collect(alloc)
+    relocs.reserve(addresses.len())?;
+    for address in addresses {
+        relocs.push(packed_reloc(bytes, loads, *address))?;
+    }
+    Ok(())
 }
 
 /// Where the bytes that a relocation changes stand in memory.

@@ -103,7 +103,7 @@ fn tables_overlap(
         tags.now) }
 {
     let windows = main_windows(alloc, header, segments, sections, tags)?;
-    any_share(alloc, &windows)
+    Ok(any_share(windows))
 }
 
 /// Clause 12.

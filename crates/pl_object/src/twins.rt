@@ -180,8 +180,8 @@ fn any_run(
     false
 }
 
-/// The most comparisons of versions for which each two definers of one hash are compared.
-const FEW: usize = 0x40_0000;
+/// The most comparisons of versions for which each two definers of one hash are compared: so many take less time than it takes to read the file.
+const FEW: usize = 0x1_0000;
 
 /// Whether few enough of the entries have one hash, and there are few enough versions, that each two of one hash may be compared.
 fn are_few(versions: &Option<Versions>, entries: &[Entry]) -> bool {

@@ -1,9 +1,10 @@
 -- The bytes of a symbol's name.
-use Rattle.std.specs.Prelude.{ℕ, List, take}
+use Rattle.std.specs.Prelude.{ℕ, List, drop, take}
+use Rattle.std.specs.Rc.{rc_slice_items}
 use Rattle.pl_sym.specs.declared.name.NameBytes.{NameBytes}
-use Rattle.pl_sym.specs.declared.name.NameBytes.TheVariants.{Here, There}
+use Rattle.pl_sym.specs.declared.name.NameBytes.TheVariants.{Here, Shared}
 
--- they stand in the symbol, or in memory of their own
+-- they stand in the symbol, or in strings that names share
 abbrev pub bytes_at : NameBytes → List ℕ
 bytes_at (Here size bytes) = take size bytes
-bytes_at (There v) = v.items
+bytes_at (Shared strings start size) = take size (drop start (rc_slice_items strings))

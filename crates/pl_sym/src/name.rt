@@ -1,12 +1,14 @@
 // The name of a symbol.
-ghost use Rattle.std.specs.Prelude.{◌≡◌, ◌≤◌, length, take, IfOk};
+ghost use Rattle.std.specs.Prelude.{◌≡◌, ◌≤◌, length, take, drop, IfOk};
+ghost use Rattle.std.specs.Rc.{rc_slice_items};
 ghost use Rattle.pl_sym.specs.Name as spec;
 ghost use Rattle.pl_sym.specs.declared.name.TheConstants.{SHORT};
 
 use std::alloc::{AllocError, Global};
 use std::marker::Model;
+use std::rc::RcSlice;
 
-/// How many bytes of a name stand in the symbol itself, as many as a vector has.
+/// How many bytes of a name stand in the symbol itself, as many as a pointer and two numbers have.
 const SHORT: usize = 23;
 
 /// Where the bytes of a name stand.
@@ -15,11 +17,15 @@ enum NameBytes {
     /// In the symbol: so many of these.
     Here { size: u8, bytes: [u8; SHORT] },
 
-    /// In memory of their own.
-    There(Vec<u8>),
+    /// In strings that names share: so many from a place on.
+    Shared {
+        strings: RcSlice<u8>,
+        start: usize,
+        size: usize,
+    },
 }
 
-/// The bytes of a symbol's name. Contracts see it as their list. Most names are short, and take no memory besides the symbol's.
+/// The bytes of a symbol's name. Contracts see it as their list. Most names are short, and take no memory besides the symbol's; the long ones of a table share its strings.
 #[derive(Drop)]
 pub struct Name {
     place: NameBytes,
@@ -34,15 +40,27 @@ impl Model for Name {
     ghost view = { λ s. bytes_at s.place };
 }
 
-/// The first of the bytes in a symbol.
+/// The first of some bytes, or all of them.
 #[tactic(auto, using(std::proofs::lemmas::List::take_all))]
-fn first(bytes: &[u8; SHORT], size: usize) -> &[u8]
+fn first(bytes: &[u8], size: usize) -> &[u8]
     ensures { result.now ≡ take size bytes.now }
 {
-    if size < SHORT {
+    if size < bytes.len() {
         &bytes[..size]
     } else {
-        bytes.as_slice()
+        bytes
+    }
+}
+
+/// The bytes from a place on; past the last one none.
+#[tactic(auto, using(std::proofs::lemmas::List::drop_all))]
+fn rest(bytes: &[u8], start: usize) -> &[u8]
+    ensures { result.now ≡ drop start bytes.now }
+{
+    if start < bytes.len() {
+        &bytes[start..]
+    } else {
+        &[]
     }
 }
 
@@ -59,22 +77,38 @@ fn here(bytes: &[u8]) -> NameBytes
     }
 }
 
-fn place_of(alloc: Global, bytes: &[u8]) -> Result<NameBytes, AllocError>
-    ensures { IfOk result (λ p. spec.bytes_at p ≡ bytes.now) }
+fn place_of(strings: &RcSlice<u8>, start: usize, size: usize) -> Result<NameBytes, AllocError>
+    ensures { IfOk result (λ p. spec.bytes_at p
+        ≡ take size (drop start (rc_slice_items strings.now))) }
 {
+    let bytes = first(rest(strings.as_slice(), start), size);
     if bytes.len() <= SHORT {
         return Ok(here(bytes));
     }
-    Ok(NameBytes::There(Vec::from_slice(alloc, bytes)?))
+    Ok(NameBytes::Shared {
+        strings: strings.clone()?,
+        start,
+        size,
+    })
 }
 
 impl Name {
+    /// So many bytes of strings from a place on, as far as they reach. It fails only for want of memory.
+    pub fn within(strings: &RcSlice<u8>, start: usize, size: usize) -> Result<Name, AllocError>
+        ensures { IfOk result (λ name. name
+            ≡ take size (drop start (rc_slice_items strings.now))) }
+    {
+        let place = place_of(strings, start, size)?;
+        Ok(Name { place })
+    }
+
     /// A copy of bytes. It fails only for want of memory.
+    #[tactic(auto, using(std::proofs::lemmas::List::take_all))]
     pub fn copy_of(alloc: Global, bytes: &[u8]) -> Result<Name, AllocError>
         ensures { IfOk result (λ name. name ≡ bytes.now) }
     {
-        let place = place_of(alloc, bytes)?;
-        Ok(Name { place })
+        let strings = RcSlice::from_slice(alloc, bytes)?;
+        Name::within(&strings, 0, bytes.len())
     }
 
     /// The bytes, lent.
@@ -82,8 +116,12 @@ impl Name {
         ensures { result.now ≡ self.now }
     {
         match &self.place {
-            NameBytes::Here { size, bytes } => first(bytes, usize::from(*size)),
-            NameBytes::There(bytes) => bytes.as_slice(),
+            NameBytes::Here { size, bytes } => first(bytes.as_slice(), usize::from(*size)),
+            NameBytes::Shared {
+                strings,
+                start,
+                size,
+            } => first(rest(strings.as_slice(), *start), *size),
         }
     }
 }

@@ -15,7 +15,6 @@ mod record;
 mod records;
 mod versions;
 
-pub use demand::Demand;
 pub use fault::VerFault;
 pub use fields::index_of;
 pub use look_up::version_of;

@@ -1,5 +1,4 @@
-use Rattle.std.proofs.Common.{◌∙◌, ◌≡◌, length, ap, arith}
-use Rattle.std.proofs.lemmas.List.{take_at}
+use Rattle.std.proofs.Common.{◌∙◌, ap}
 use Rattle.pl_object.specs.FilePart.{nothing}
 use Rattle.pl_elf.specs.Sweep.{sweep}
 use Rattle.pl_elf.proofs.SweepLaws.{swept}
@@ -7,7 +6,4 @@ use Rattle.pl_object.proofs.overlaps.any_share.Goals as goal
 
 pub returns : goal.returns
 returns c =
-    let long : length c.sort_windows.new.windows ≡ c.in_ok-sorted.sorted.len = omega (arith, c.sort_windows.ensures.len, c.deref_mut.ensures.len, ap length c.deref_mut.ensures.value) in
-    let back : c.deref.result.now ≡ c.sort_windows.new.windows = c.deref.ensures.value ∙ take_at c.sort_windows.new.windows _ c.in_ok-sorted.sorted.len long in
-    let same = rw (c.deref_mut.ensures.value, c.in_ok-sorted.ensures.items) at c.sort_windows.ensures.same in
-    c.sweep.ensures ∙ ap (sweep nothing) back ∙ swept c.args.windows.now c.sort_windows.new.windows same c.sort_windows.ensures.rising
+    c.sweep.ensures ∙ ap (sweep nothing) c.deref.ensures.value ∙ swept c.args.windows.items c.sort_windows.new.windows.items c.sort_windows.ensures.same c.sort_windows.ensures.rising
