@@ -108,12 +108,12 @@ any_before : (w : Window) (ts : List Window) (j : ℕ) → IsPartitionPoint (λ 
 any_before w ts j point le =
     let begin : (k : ℕ) (d : Window) → k < length (take j ts) → nat_lt (get_or (take j ts) k d).at (end_of w) ≡ true =
     λ k d lt.
-        let below : k < j = omega (arith, lt, length-take-le j ts le) in
-        subst (λ (t : Window). nat_lt t.at (end_of w) ≡ true) (sym (get_or-take j ts k d below)) (point.0 k d (omega arith) below) in
+    let below : k < j = omega (arith, lt, length-take-le j ts le) in
+    subst (λ (t : Window). nat_lt t.at (end_of w) ≡ true) (sym (get_or-take j ts k d below)) (point.0 k d (omega arith) below) in
     let over : (k : ℕ) (d : Window) → k < length (drop j ts) → nat_lt (get_or (drop j ts) k d).at (end_of w) ≡ false =
     λ k d lt.
-        let within : j + k < length ts = omega (arith, lt, length-drop j ts, le) in
-        subst (λ (t : Window). nat_lt t.at (end_of w) ≡ false) (sym (get_or-drop j ts k d)) (point.1 (j + k) d (omega arith) within) in
+    let within : j + k < length ts = omega (arith, lt, length-drop j ts, le) in
+    subst (λ (t : Window). nat_lt t.at (end_of w) ≡ false) (sym (get_or-drop j ts k d)) (point.1 (j + k) d (omega arith) within) in
     ap (list_any (share w)) (sym (take-append-drop j ts))
     ∙ list_any-append (share w) (take j ts) (drop j ts)
     ∙ rw (all_before w (take j ts) begin, all_after w (drop j ts) over) (or-false (list_any (ends_in w) (take j ts)))

@@ -15,7 +15,10 @@ const SHORT: usize = 23;
 #[derive(Drop)]
 enum NameBytes {
     /// In the symbol: so many of these.
-    Here { size: u8, bytes: [u8; SHORT] },
+    Here {
+        size: u8,
+        bytes: [u8; SHORT],
+    },
 
     /// In strings that names share: so many from a place on.
     Shared {

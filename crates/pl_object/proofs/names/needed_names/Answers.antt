@@ -27,8 +27,8 @@ returns-in_err-name c =
     let tags = c.args.tags.now in
     let p = err_from_is_err_and c.from_residual-in_err-name.result c.from_residual-in_err-name.ensures.1 in
     rw (p.1, p.2) (
-      kept_fails f (has_number DT_NEEDED) tags c.loop-tag.tag-index _ _ c.loop-tag.names (each f (filter (has_number DT_NEEDED) tags)) c.loop-tag-test.true refl c.loop-tag.invariant.rest
-      is_memory _ (sym c.is_needed.ensures ∙ c.if-is_needed.true) c.in_err-name.ensures.name
+    kept_fails f (has_number DT_NEEDED) tags c.loop-tag.tag-index _ _ c.loop-tag.names (each f (filter (has_number DT_NEEDED) tags)) c.loop-tag-test.true refl c.loop-tag.invariant.rest
+    is_memory _ (sym c.is_needed.ensures ∙ c.if-is_needed.true) c.in_err-name.ensures.name
     )
 
 pub loop-tag-preserved : goal.loop-tag-preserved
