@@ -1,0 +1,5 @@
+use Rattle.std.proofs.Common.{rules}
+use Rattle.pl_script.proofs.limits.count_loads.Goals as goal
+
+pub returns : goal.returns
+returns c = search rules
