@@ -20,7 +20,7 @@ use Rattle.pl_scope.specs.Walk.{Walked}
 use Rattle.pl_scope.specs.declared.found.Found.{Found}
 use Rattle.pl_scope.specs.declared.index.Entry.{Entry}
 use Rattle.pl_tls.specs.Layout.{offsets}
-use Rattle.pl_value.specs.Meanings.{Row, meaning, meanings, row, rows_from}
+use Rattle.pl_value.specs.Meanings.{Row, meaning, row, rows_from}
 use Rattle.pl_value.specs.Values.{relocations_in}
 use Rattle.pl_value.specs.declared.fault.LinkFault.{LinkFault}
 use Rattle.pl_value.specs.declared.fault.OrdinaryFault.{OrdinaryFault}
@@ -68,9 +68,6 @@ row_has_in l x = done (meaning_in l x)
 
 abbrev pub rows_have_in : WalkLinking → List Row → Result (Unit {0}) LinkFault
 rows_have_in l xs = done (each (meaning_in l) xs)
-
-abbrev pub all_have_in : WalkLinking → Result (Unit {0}) LinkFault
-all_have_in l = done (meanings (objects_of l) l.places.now l.modules.now)
 
 -- the relocations of the first member, and those of the others
 abbrev pub first_rows : WalkLinking → List Row

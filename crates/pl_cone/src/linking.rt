@@ -98,7 +98,7 @@ fn remaining_number(
     }
 }
 
-/// What the relocations of the first member of a walk find there, and which of them remain: which are not known to give the same in every walk.
+/// What the relocations of the first member of a walk find there, and which of them remain: which are not known to give the same in every walk. It fails only for want of memory, as which 2^32 relocations count too.
 pub fn library_link(alloc: Global, own: &WalkScope<'_>, index: &Index) -> Result<Link, NoMemory>
     requires some { 0 < length own.now.scope }
     requires index { table.IsIndexOfScope own.now index.now }

@@ -30,7 +30,7 @@ fn blocks(alloc: Global, scope: &Scope<'_>) -> Result<Vec<Option<Block>>, AllocE
     blocks_of(alloc, scope.members())
 }
 
-/// The modules of thread-local storage of the members, or that an offset is too great.
+/// The modules of thread-local storage of the members, or that an offset is too great, or a want of memory.
 pub fn modules_of(alloc: Global, scope: &Scope<'_>) -> Result<Rows<Module>, TlsFault>
     ensures { Answers is_memory result (offsets (spec.blocks scope.now)) }
 {

@@ -85,7 +85,7 @@ fn positions_of(alloc: Global, count: usize, rows: &[u32]) -> Result<Vec<Option<
 }
 
 impl<'f> WalkScope<'f> {
-    /// The scope of a walk of a folder, by the rows of its members.
+    /// The scope of a walk of a folder, by the rows of its members. It fails only for want of memory.
     pub fn of(alloc: Global, files: &'f [Taken], rows: &[u32]) -> Result<WalkScope<'f>, AllocError>
         requires files { WereTaken files.now }
         requires rows { spec.AreRows files.now rows.now }
@@ -107,7 +107,7 @@ impl<'f> WalkScope<'f> {
         }
     }
 
-    /// A place for each member, all at 0: no link refusal asks where a member is loaded.
+    /// A place for each member, all at 0: no link refusal asks where a member is loaded. It fails only for want of memory.
     pub fn zeros(&self, alloc: Global) -> Result<Places, AllocError>
         ensures { IfOk result (λ places. places ≡ zeros self.now.scope) }
     {

@@ -205,7 +205,7 @@ pub struct PlannedSlots {
     pub places: Rows<u64>,
 }
 
-/// A slot for each library that may be prelinked, in the order of the files, by `plan` of pl_slots over the rows of the cache that are kept, or, where libraries may share addresses that the walk of no name which may be prelinked holds together, by `plan_shared` of pl_share. NoSlot comes exactly where no hole holds a library.
+/// A slot for each library that may be prelinked, in the order of the files, by `plan` of pl_slots over the rows of the cache that are kept, or, where libraries may share addresses that the walk of no name which may be prelinked holds together, by `plan_shared` of pl_share. NoSlot comes exactly where no hole holds a library. 2^32 libraries count as a want of memory.
 pub fn slots_of(
     alloc: Global,
     table: &RunTable<'_>,

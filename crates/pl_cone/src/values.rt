@@ -16,7 +16,7 @@ use pl_tls::Module;
 use pl_value::{LinkFault, OrdinaryFault, Places, reference_of, word_of};
 use std::alloc::Global;
 
-/// A program's walk that is linked: the members at 0, their modules of thread-local storage, and the index of the folder.
+/// A program's walk that is linked: its scope, the places of its members, their modules of thread-local storage, and the index of the folder.
 #[derive(Clone, Copy)]
 pub struct WalkLinking<'s, 'f> {
     pub scope: &'s Scope<'f>,

@@ -99,7 +99,7 @@ fn read_named(alloc: Global, name: Text, bytes: Vec<u8>) -> Result<ObjectFile, L
     }
 }
 
-/// The same of a file whose object may be known already.
+/// What a file of the walk is, by its object where that is known already; or why it is none.
 fn named(alloc: Global, name: Text, file: GivenFile) -> Result<ObjectFile, LoadFault>
     requires { length file < 2 ^ 32 }
     ensures exact { Answers is_memory result (spec.named name file) }

@@ -5,10 +5,6 @@ use Rattle.pl_cone.specs.declared.skip.Skip.TheVariants as skips
 use Rattle.pl_elf.specs.Kinds.{is_library}
 use Rattle.pl_elf.specs.declared.range.Range.{Range}
 use Rattle.pl_form.specs.Files.{marked_in}
-use Rattle.pl_form.specs.declared.fault.FileFault.{FileFault}
-use Rattle.pl_form.specs.declared.file.File.{File}
-use Rattle.pl_form.specs.declared.file.File.TheVariants as files
-use Rattle.pl_form.specs.declared.file.File.TheVariants.{Plain}
 use Rattle.pl_form.specs.declared.file.Marked.{Marked}
 use Rattle.pl_cone.specs.Plans.{is_current}
 use Rattle.pl_cone.specs.Skipped.{skip_of}
@@ -28,12 +24,6 @@ state_of current m = if is_library m.object.kind then Library current m.slot m.s
 abbrev pub marked_at : Option (List ℕ) → Option Marked
 marked_at None = None
 marked_at (Some file) = marked_in file
-
--- the same by what is read of a file
-abbrev pub form_in : Result File FileFault → Option Marked
-form_in (Ok (Plain x)) = None
-form_in (Ok (files.Marked m)) = Some m
-form_in (Err fault) = None
 
 -- the file of a name that is a candidate: where its form is too large it is not prelinked
 abbrev pub state_in : List ℕ → Bool → Option Marked → RowState

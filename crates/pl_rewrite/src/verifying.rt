@@ -110,7 +110,7 @@ fn link_at(alloc: Global, numbered: &Numbered<'_>, row: usize) -> Result<Link, N
     })
 }
 
-/// The same where it is needed; else of no relocations.
+/// What the relocations of the file of a row find, where that is needed; else of no relocations.
 fn link_if(
     alloc: Global,
     numbered: &Numbered<'_>,
@@ -258,7 +258,7 @@ fn meant_with(
     Ok(file)
 }
 
-/// The same for numbers that the files bear: none where a file of the walk is not prelinked.
+/// The file that is meant of a row, at the slots and stamps that the files bear: none where a file of the walk is not prelinked.
 fn meant_if_marked(
     alloc: Global,
     numbered: &Numbered<'_>,
