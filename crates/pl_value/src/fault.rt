@@ -16,7 +16,7 @@ pub enum LinkFault {
     UndefinedTls { member: u32, symbol: u32 },
     /// One of relocation and definer is of thread-local storage and the other is not; or the object that would have the block has no PT_TLS.
     TlsMismatch { member: u32, symbol: u32 },
-    /// The bytes that would be copied are not in the memory of one PT_LOAD.
+    /// The definer of a COPY is absolute, or the bytes that would be copied are not all in the memory of one PT_LOAD.
     CopyOutside { member: u32, symbol: u32 },
 }
 

@@ -21,7 +21,7 @@ pub enum LinkCause {
     /// One of relocation and definer is of thread-local storage and the other is not; or the object that would have the block has no PT_TLS.
     TlsMismatch,
 
-    /// The bytes that would be copied are not in the memory of one PT_LOAD.
+    /// The definer of a COPY is absolute, or the bytes that would be copied are not all in the memory of one PT_LOAD.
     CopyOutside,
 }
 
