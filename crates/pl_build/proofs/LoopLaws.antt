@@ -1,5 +1,5 @@
 -- Loops over rows. x is the row at i, as a loop reads it; what is done and what the rest gives is the whole.
-use Rattle.std.proofs.Common.{◌≡◌, ℕ, ◌+◌, ◌≤◌, ◌<◌, List, [], ◌∷◌, ◌++◌, refl, sym, ap, ◌∙◌, append_assoc, arith, length, drop, get_or, Bool, true, false, inl, inr}
+use Rattle.std.proofs.Common.{◌≡◌, ℕ, ◌+◌, ◌≤◌, ◌<◌, List, [], ◌∷◌, ◌++◌, refl, sym, ap, ◌∙◌, append_assoc, arith, length, drop, take, get_or, Bool, true, false, inl, inr}
 use Rattle.std.proofs.lemmas.Bool.{cases_Bool}
 use Rattle.pl_base.specs.Each.{run}
 use Rattle.pl_base.proofs.RunLaws.{run_fails}
@@ -7,7 +7,8 @@ use Rattle.pl_build.specs.declared.line.SymbolLine.{SymbolLine}
 use Rattle.pl_build.specs.Symbols.{kept}
 use Rattle.std.specs.Prelude.{cond, IfSome, Option, Some, None, Result, Err}
 use Rattle.std.specs.List.{fold, filter, flat_map, range_with_len}
-use Rattle.std.proofs.lemmas.List.{append-nil, at_drop_more, at_drop_all}
+use Rattle.std.proofs.lemmas.List.{append-nil, at_drop_more, at_drop_all, take_more}
+use Rattle.std.proofs.lemmas.List.Sums.{fold-append}
 use Rattle.std.proofs.lemmas.List.FromFn.{length-range_with_len, get_or-range_with_len}
 
 -- nothing more
@@ -24,6 +25,13 @@ fold_more {S = S} f s t xs i x whole lt is step so_far =
 
 pub fold_done : {S A : Type 0} (f : S → A → S) (s : S) (xs : List A) (i : ℕ) (whole : S) → length xs ≤ i → fold f s (drop i xs) ≡ whole → s ≡ whole
 fold_done f s xs i whole le so_far = sym (at_drop_all (fold f s) xs i le) ∙ so_far
+
+-- the same where the loop takes the rows over
+pub fold_taken : {S A : Type 0} (f : S → A → S) (first s t : S) (xs : List A) (i : ℕ) (x : A) → i < length xs → x ≡ get_or xs i x → t ≡ f s x
+    → s ≡ fold f first (take i xs) → t ≡ fold f first (take (i + 1) xs)
+fold_taken {S = S} f first s t xs i x lt is step so_far =
+    step ∙ ap (λ (u : S). f u x) so_far ∙ ap (f (fold f first (take i xs))) is
+    ∙ sym (fold-append f first (take i xs) (get_or xs i x ∷ [])) ∙ ap (fold f first) (sym (take_more xs i x lt))
 
 -- a step that tells a fault, or a want of memory, ends the loop
 pub run_tells : {S A E F : Type 0} (told : E → Option F) (f : S → A → Result S F) (s : S) (xs : List A) (i : ℕ) (x : A) (e : E) (whole : Result S F) → i < length xs → x ≡ get_or xs i x → IfSome (told e) (λ fault. f s x ≡ Err fault)

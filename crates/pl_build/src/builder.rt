@@ -36,7 +36,7 @@ fn made_of(alloc: Global, lines: Vec<Line>) -> Result<Rows<u8>, RecipeFault>
             kind: fault.kind,
         });
     }
-    let recipe = gather(alloc, lines.as_slice())?;
+    let recipe = gather(alloc, lines)?;
     let plan = plan_of(alloc, recipe)?;
     made(alloc, &plan)
 }

@@ -5,8 +5,6 @@ use crate::constants::{BUCKETS, SPARE};
 use crate::kind::FileKind;
 use crate::line::{DataWord, Hashes, Line, PackedWord, Relocation, SymbolLine, TlsBlock};
 use crate::packed::in_order;
-use crate::symbols::copy_symbol;
-use crate::words::copy_of;
 use pl_base::Rows;
 use std::alloc::{AllocError, Global};
 
@@ -121,17 +119,6 @@ fn set(settings: Settings, line: &Line) -> Settings
     }
 }
 
-fn copy_relocation(alloc: Global, relocation: &Relocation) -> Result<Relocation, AllocError>
-    ensures { IfOk result (λ r. r ≡ relocation.now) }
-{
-    Ok(Relocation {
-        kind: relocation.kind,
-        offset: relocation.offset,
-        name: copy_of(alloc, relocation.name.as_slice())?,
-        addend: relocation.addend,
-    })
-}
-
 /// The packed words in the order of their offsets.
 fn sorted_recipe(recipe: Recipe) -> Result<Recipe, AllocError>
     ensures { IfOk result (λ r. r ≡ spec.sorted_recipe recipe) }
@@ -157,51 +144,49 @@ fn sorted_recipe(recipe: Recipe) -> Result<Recipe, AllocError>
 }
 
 /// One line more; a packed word stands behind all others.
-fn add(alloc: Global, recipe: Recipe, line: &Line) -> Result<Recipe, AllocError>
-    ensures { IfOk result (λ r. r ≡ spec.pushed recipe line.now) }
+fn add(recipe: Recipe, line: Line) -> Result<Recipe, AllocError>
+    ensures { IfOk result (λ r. r ≡ spec.pushed recipe line) }
 {
     let mut recipe = recipe;
     match line {
         Line::Needs(name) => {
-            recipe.needs.push(copy_of(alloc, name.as_slice())?)?;
+            recipe.needs.push(name)?;
             Ok(recipe)
         }
         Line::Put(word) => {
-            recipe.words.push(*word)?;
+            recipe.words.push(word)?;
             Ok(recipe)
         }
         Line::Version(name) => {
-            recipe.versions.push(copy_of(alloc, name.as_slice())?)?;
+            recipe.versions.push(name)?;
             Ok(recipe)
         }
         Line::Names(symbol) => {
-            recipe.symbols.push(copy_symbol(alloc, symbol)?)?;
+            recipe.symbols.push(symbol)?;
             Ok(recipe)
         }
         Line::Relocates(relocation) => {
-            recipe
-                .relocations
-                .push(copy_relocation(alloc, relocation)?)?;
+            recipe.relocations.push(relocation)?;
             Ok(recipe)
         }
         Line::Packs(word) => {
-            recipe.packed.push(*word)?;
+            recipe.packed.push(word)?;
             Ok(recipe)
         }
-        _ => {
-            recipe.settings = set(recipe.settings, line);
+        other => {
+            recipe.settings = set(recipe.settings, &other);
             Ok(recipe)
         }
     }
 }
 
-/// All lines together. The time grows as `n log n`.
-pub fn gather(alloc: Global, lines: &[Line]) -> Result<Recipe, AllocError>
-    ensures { IfOk result (λ r. r ≡ spec.gathered lines.now) }
+/// All lines together. The time grows as `n log n`. The lines are taken over, so that no name is there twice.
+pub fn gather(alloc: Global, lines: Vec<Line>) -> Result<Recipe, AllocError>
+    ensures { IfOk result (λ r. r ≡ spec.gathered lines.items) }
 {
     let mut recipe = empty(alloc);
     for line in lines {
-        recipe = add(alloc, recipe, line)?;
+        recipe = add(recipe, line)?;
     }
     let whole = sorted_recipe(recipe)?;
     Ok(whole)

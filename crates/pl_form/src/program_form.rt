@@ -22,6 +22,9 @@ use pl_lists::{ConflictRow, ListRow, write_conflicts, write_list};
 use pl_object::{Object, strings_of};
 use std::alloc::{AllocError, Global};
 
+/// How many bytes a fill has, but for those of copies, so that room is made for all at once. Nothing but memory and time depends on it.
+const FILL_SIZE: usize = 8;
+
 /// Whether the names of a list have more bytes than a form.
 fn has_long_names(list: &[ListRow]) -> bool
     ensures { result ≡ nat_lt STORED (length (list_strings list.now)) }
@@ -157,31 +160,38 @@ fn push_fill(flat: &mut Vec<u8>, fill: &Fill) -> Result<(), AllocError>
 fn flat_of(alloc: Global, fills: &[Fill]) -> Result<Vec<u8>, AllocError>
     ensures { IfOk result (λ v. v.items ≡ words.flat_of fills.now) }
 {
-    let mut flat = Vec::new(alloc);
+    let mut flat = Vec::with_capacity(alloc, fills.len().saturating_mul(FILL_SIZE))?;
     for fill in fills {
         push_fill(&mut flat, fill)?;
     }
     Ok(flat)
 }
 
-/// The form that `form_program` gives, where the caller has the SHA-256 of the original.
+/// The bytes of the fills, one after the other. The fills are let go.
+fn flat_from(alloc: Global, fills: Vec<Fill>) -> Result<Vec<u8>, AllocError>
+    ensures { IfOk result (λ v. v.items ≡ words.flat_of fills.items) }
+{
+    flat_of(alloc, &fills)
+}
+
+/// The form that `form_program` gives, where the caller has the SHA-256 of the original. The fills are let go before the form is made.
 pub fn form_program_with(
     alloc: Global,
     original: &[u8],
     object: &Object,
     list: &[ListRow],
-    fills: &[Fill],
+    fills: Vec<Fill>,
     conflicts: &[ConflictRow],
     version: Version,
     digest: &[u8; 32],
 ) -> Result<Vec<u8>, FormFault>
     requires firm { spec.IsFirmProgram original.now object.now }
-    requires fills { AreFills fills.now object.now.relocations }
+    requires fills { AreFills fills.items object.now.relocations }
     requires digest { digest.now ≡ sha256 original.now }
     ensures { AnswersAs (λ v. v.items) fault_spec.is_memory result
-        (spec.stored (spec.program_form original.now list.now fills.now conflicts.now version)) }
+        (spec.stored (spec.program_form original.now list.now fills.items conflicts.now version)) }
 {
-    let flat = flat_of(alloc, fills)?;
+    let flat = flat_from(alloc, fills)?;
     program_with(
         alloc, original, object, list, &flat, conflicts, version, digest,
     )
@@ -205,7 +215,8 @@ pub fn form_program(
         (spec.stored (spec.program_form original.now list.now fills.now conflicts.now version)) }
 {
     let digest = digest_of(original);
-    form_program_with(
-        alloc, original, object, list, fills, conflicts, version, &digest,
+    let flat = flat_of(alloc, fills)?;
+    program_with(
+        alloc, original, object, list, &flat, conflicts, version, &digest,
     )
 }

@@ -34,11 +34,21 @@ fn push_window(all: &mut Vec<u8>, window: &Window, bytes: &[u8]) -> Result<(), A
     all.extend_from_slice(part(bytes, window.at(), window.size()))
 }
 
+/// How many bytes windows have, so that room is made for them at once. Nothing but memory and time depends on it.
+fn room_for(windows: &[Window], bytes: &[u8]) -> usize {
+    let mut room: usize = 0;
+    for window in windows {
+        let size = part(bytes, window.at(), window.size()).len();
+        room = room.saturating_add(size);
+    }
+    room
+}
+
 /// The bytes of windows, one after the other.
 pub fn all_bytes(alloc: Global, windows: &[Window], bytes: &[u8]) -> Result<Vec<u8>, AllocError>
     ensures { IfOk result (λ v. v.items ≡ all_within windows.now bytes.now) }
 {
-    let mut all = Vec::new(alloc);
+    let mut all = Vec::with_capacity(alloc, room_for(windows, bytes))?;
     for window in windows {
         push_window(&mut all, window, bytes)?;
     }

@@ -78,30 +78,25 @@ fn under_header(
     Ok(front)
 }
 
-/// Bytes with others inserted at an offset, with room for so many.
-fn with_more(
-    alloc: Global,
-    cut: usize,
-    more: &[u8],
-    bytes: &[u8],
-    room: usize,
-) -> Result<Vec<u8>, AllocError>
-    requires { cut ≤ length bytes.now }
-    ensures { IfOk result (λ v. v.items ≡ inserted cut more.now bytes.now) }
+/// Bytes with others inserted at an offset. What follows is copied aside and added again, which is little but for a file with much behind its last PT_LOAD.
+fn with_more(alloc: Global, cut: usize, more: &[u8], bytes: Vec<u8>) -> Result<Vec<u8>, AllocError>
+    requires { cut ≤ length bytes.items }
+    ensures { IfOk result (λ v. v.items ≡ inserted cut more.now bytes.items) }
 {
-    let mut file = copy_with(alloc, &bytes[..cut], room)?;
+    let rest = Vec::from_slice(alloc, &bytes[cut..])?;
+    let mut file = bytes;
+    file.truncate(cut);
     file.extend_from_slice(more)?;
-    file.extend_from_slice(&bytes[cut..])?;
+    file.extend_from_slice(&rest)?;
     Ok(file)
 }
 
-/// Bytes with others inserted at an offset, with room for so many. Where nothing is inserted, no byte is copied.
+/// Bytes with others inserted at an offset. Where nothing is inserted, no byte is copied.
 fn with_inserted(
     alloc: Global,
     cut: usize,
     more: &[u8],
     bytes: Vec<u8>,
-    room: usize,
 ) -> Result<Vec<u8>, AllocError>
     requires { cut ≤ length bytes.items }
     ensures { IfOk result (λ v. v.items ≡ inserted cut more.now bytes.items) }
@@ -109,7 +104,7 @@ fn with_inserted(
     if more.is_empty() {
         return Ok(bytes);
     }
-    with_more(alloc, cut, more, &bytes, room)
+    with_more(alloc, cut, more, bytes)
 }
 
 /// Adds each part at the next multiple of 8.
@@ -158,7 +153,7 @@ fn body(
         (original bytes.now layout.now) flat.now)) plan.now.parts) }
 {
     let front = under_header(alloc, bytes, layout, plan, flat, room)?;
-    let mut file = with_inserted(alloc, plan.cut, plan.more.as_slice(), front, room)?;
+    let mut file = with_inserted(alloc, plan.cut, plan.more.as_slice(), front)?;
     push_parts(&mut file, plan.parts.as_slice())?;
     Ok(file)
 }

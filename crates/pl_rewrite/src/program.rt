@@ -76,14 +76,13 @@ fn form_of(
     work: &Work<'_>,
     row: usize,
     version: Version,
-    made: &Contents,
+    made: Contents,
 ) -> Result<Option<NewProgram>, NoMemory>
     requires work { contents.IsWork work.now }
     requires program { contents.IsProgramRow work.now row }
     requires set { are_set (spec.firms_of work.now.numbered.now row) ≡ true }
-    requires fills { AreFirstFills (spec.firms_of work.now.numbered.now row)
-        made.now.fills.items }
-    ensures { IfOk result (contents.IsProgramForm work.now row version made.now) }
+    requires fills { AreFirstFills (spec.firms_of work.now.numbered.now row) made.fills.items }
+    ensures { IfOk result (contents.IsProgramForm work.now row version made) }
 {
     let numbered = work.numbered;
     let files = numbered.files;
@@ -95,8 +94,11 @@ fn form_of(
     let digest = digest_at(files, work.digests, row);
     let original = taken.original();
     let listed = list.as_slice();
-    let fills = made.fills.as_slice();
-    let rows = made.rows.as_slice();
+    let Contents {
+        fills,
+        rows: conflicts,
+    } = made;
+    let rows = conflicts.as_slice();
     match form_program_with(
         alloc, original, object, listed, fills, rows, version, &digest,
     ) {
@@ -132,7 +134,7 @@ fn file_with(
         among,
     };
     match contents_of(alloc, work, row, &linking) {
-        Ok(made) => form_of(alloc, work, row, version, &made),
+        Ok(made) => form_of(alloc, work, row, version, made),
         Err(OrdinaryFault::Link(_)) => Ok(None),
         Err(OrdinaryFault::NoMemory) => Err(NoMemory),
     }

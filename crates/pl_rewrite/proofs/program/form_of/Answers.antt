@@ -1,4 +1,4 @@
-use Rattle.std.proofs.Common.{◌≡◌, ap, length, sym, ◌∙◌}
+use Rattle.std.proofs.Common.{◌≡◌, ap, length, refl, sym, ◌∙◌}
 use Rattle.pl_form.specs.declared.fault.FormFault.TheVariants.{TooLarge}
 use Rattle.pl_rewrite.proofs.DigestLaws.{numbered_read, read_item}
 use Rattle.pl_rewrite.proofs.NumberedLaws.{row_within}
@@ -44,7 +44,7 @@ form_program_with-requires-clause-firm c =
 pub form_program_with-requires-clause-fills : goal.form_program_with-requires-clause-fills
 form_program_with-requires-clause-fills c =
     let f = program_row c.args.work.now.numbered.now c.args.row c.index-files-row.result c.in-Some.object.now c.requires.program.walk c.index-files-row.is c.in-Some.ensures in
-    fills_are c.args.work.now.numbered.now c.args.row c.index-files-row.result c.in-Some.object.now c.as_slice-fills.result.now c.args.made.now.fills.items f c.requires.fills c.as_slice-fills.ensures.value
+    fills_are c.args.work.now.numbered.now c.args.row c.index-files-row.result c.in-Some.object.now c.args.made.fills.items c.args.made.fills.items f c.requires.fills refl
 
 pub form_program_with-requires-clause-digest : goal.form_program_with-requires-clause-digest
 form_program_with-requires-clause-digest c =
@@ -60,8 +60,8 @@ returns-in-Ok c =
     let f = program_row n c.args.row t o c.requires.program.walk c.index-files-row.is c.in-Some.ensures in (
       ap length c.as_slice-rows.ensures.value,
       λ ss are.
-          rw (← c.as_slice-fills.ensures.value, ← c.as_slice-rows.ensures.value)
-          (form_made n c.args.row t o c.as_slice-fills.result.now c.as_slice-rows.result.now c.as_slice-listed.result.now c.original-original.result.now c.args.version c.in-Ok.file.items c.trimmed.result.items ss f c.original-original.ensures (c.as_slice-listed.ensures ∙ c.in_ok-list.ensures)
+          rw (← c.as_slice-rows.ensures.value)
+          (form_made n c.args.row t o c.args.made.fills.items c.as_slice-rows.result.now c.as_slice-listed.result.now c.original-original.result.now c.args.version c.in-Ok.file.items c.trimmed.result.items ss f c.original-original.ensures (c.as_slice-listed.ensures ∙ c.in_ok-list.ensures)
           c.in-Ok.ensures c.trimmed.ensures are),
     )
 
@@ -73,7 +73,7 @@ returns-in-Err-TooLarge c =
     let f = program_row n c.args.row t o c.requires.program.walk c.index-files-row.is c.in-Some.ensures in (
       tt,
       λ ss are.
-          rw (← c.as_slice-fills.ensures.value, ← c.as_slice-rows.ensures.value)
-          (form_large n c.args.row t o c.as_slice-fills.result.now c.as_slice-rows.result.now c.as_slice-listed.result.now c.original-original.result.now c.args.version TooLarge ss f c.original-original.ensures (c.as_slice-listed.ensures ∙ c.in_ok-list.ensures)
+          rw (← c.as_slice-rows.ensures.value)
+          (form_large n c.args.row t o c.args.made.fills.items c.as_slice-rows.result.now c.as_slice-listed.result.now c.original-original.result.now c.args.version TooLarge ss f c.original-original.ensures (c.as_slice-listed.ensures ∙ c.in_ok-list.ensures)
           (rw c.in-Err-TooLarge.field-0-is at c.in-Err-TooLarge.ensures) are),
     )
