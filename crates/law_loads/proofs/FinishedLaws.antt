@@ -12,6 +12,7 @@ use Rattle.law_folder.specs.Steps.{IsPastAll}
 use Rattle.pl_elf.specs.declared.range.Range.{Range}
 use Rattle.pl_rewrite.specs.Skipped.{skip_causes}
 use Rattle.pl_loader.specs.Loading.{Loading}
+use Rattle.pl_loader.specs.Given.{given_from}
 use Rattle.pl_loader.specs.Started.{load}
 use Rattle.pl_loader.specs.declared.fault.LoadFault.{LoadFault}
 use Rattle.law_loads.specs.LoadingFolder.{loading_folder}
@@ -20,7 +21,6 @@ use Rattle.law_loads.specs.Paths.{SameAnswer, ordinary_load}
 use Rattle.pl_place.specs.Policies.{lowest}
 use Rattle.pl_script.specs.declared.script.Event.{Event}
 use Rattle.pl_script.specs.declared.script.Event.TheVariants.{Open, Rename}
-use Rattle.pl_weave.specs.Given.{given_from}
 use Rattle.pl_weave.specs.Opening.{Opened, came_to, ended, led_to, opened, seen_of, taken_as, wanted}
 use Rattle.pl_weave.specs.Runs.{begun}
 use Rattle.pl_weave.specs.Taking.{held_file}
