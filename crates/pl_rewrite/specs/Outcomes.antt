@@ -230,10 +230,6 @@ pub record HaveWords (n : Numbered) (stale : List Bool) (all : List RowWords) : 
   pub count : length all ≡ length n.files.now
   pub each : (row : ℕ) (s : RowWords) → slice_get all row ≡ Some s → HasWordsIf n stale row s.words
 
-abbrev pub joined : Option (Option RowOutcome) → Option RowOutcome
-joined None = None
-joined (Some outcome) = outcome
-
 -- what was made of a file; or, where nothing was, that it stays or gets its original
 abbrev pub IsOutcomeFor : Taken → Option Skip → Option RowOutcome → RowOutcome → Type 0
 IsOutcomeFor t cause None o = KeepsFile t cause o

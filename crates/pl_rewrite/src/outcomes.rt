@@ -1,6 +1,5 @@
 // What a run makes of each file.
 ghost use Rattle.std.specs.Prelude.{◌≡◌, ◌<◌, IfOk, None, length};
-ghost use Rattle.std.specs.Option.{option_or};
 ghost use Rattle.pl_rewrite.specs.Outcomes as spec;
 ghost use Rattle.pl_rewrite.specs.Digests as told_digests;
 ghost use Rattle.pl_rewrite.specs.Rows as rows;
@@ -245,26 +244,6 @@ fn library_if(
     Ok(Some(outcome))
 }
 
-/// The outcome of a row, if there is one.
-fn joined(outcome: Option<Option<RowOutcome>>) -> Option<RowOutcome>
-    ensures { result ≡ spec.joined outcome }
-{
-    match outcome {
-        Some(outcome) => outcome,
-        None => None,
-    }
-}
-
-/// The first of two outcomes that is there.
-fn either(first: Option<RowOutcome>, second: Option<RowOutcome>) -> Option<RowOutcome>
-    ensures { result ≡ option_or first second }
-{
-    match first {
-        Some(outcome) => Some(outcome),
-        None => second,
-    }
-}
-
 /// What a run makes of the stale libraries, by their rows, and of the stale programs, which is handed in; None of every other row.
 fn with_libraries(
     alloc: Global,
@@ -288,8 +267,8 @@ fn with_libraries(
         let row = all.len();
         let library = library_if(alloc, numbered, digests, stale, row, words)?;
         let next = programs.next();
-        let program = joined(next);
-        let made = either(library, program);
+        let program = next.flatten();
+        let made = library.or(program);
         all.push(made)?;
     }
     Ok(all)
@@ -392,7 +371,7 @@ fn all_outcomes(
     for cause in items {
         let row = all.len();
         let next = made.next();
-        let one = joined(next);
+        let one = next.flatten();
         let outcome = outcome_for(alloc, &files[row], cause, one)?;
         all.push(outcome)?;
     }
