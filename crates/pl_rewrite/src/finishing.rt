@@ -59,13 +59,6 @@ fn put(alloc: Global, name: &str, old: &[u8], bytes: Vec<u8>) -> Result<Option<C
     }))
 }
 
-/// A copy of bytes.
-fn copy_of(alloc: Global, bytes: &[u8]) -> Result<Vec<u8>, AllocError>
-    ensures { IfOk result (λ v. v.items ≡ bytes.now) }
-{
-    Ok(Vec::from_slice(alloc, bytes)?)
-}
-
 /// The row that gives a file its original; None where it is its own.
 fn put_original(alloc: Global, taken: &Taken) -> Result<Option<Change>, AllocError>
     requires { HasItsEntry taken.now }
@@ -75,7 +68,7 @@ fn put_original(alloc: Global, taken: &Taken) -> Result<Option<Change>, AllocErr
         return Ok(None);
     };
     let own = marked.original.as_slice();
-    let original = copy_of(alloc, own)?;
+    let original = Vec::from_slice(alloc, own)?;
     let name = taken.name.as_str();
     let old = taken.bytes.as_slice();
     put(alloc, name, old, original)
