@@ -86,15 +86,6 @@ fn made_original(alloc: Global, taken: &Taken, cause: Skip) -> Result<Made, Allo
     })
 }
 
-/// A file whose form would be too large.
-fn made_large(alloc: Global, taken: &Taken) -> Result<Made, AllocError>
-    requires { HasItsEntry taken.now }
-    ensures { IfOk result (λ made. made ≡ told.made_original taken.now (told.too_large taken.now)) }
-{
-    let cause = too_large(alloc, taken)?;
-    made_original(alloc, taken, cause)
-}
-
 /// A program that is prelinked anew.
 fn made_program(alloc: Global, taken: &Taken, program: NewProgram) -> Result<Made, AllocError>
     ensures { IfOk result (λ made. made ≡ told.made_program taken.now program) }
@@ -138,7 +129,10 @@ fn made_library(alloc: Global, taken: &Taken, parts: &NewLibrary) -> Result<Made
     ensures { IfOk result (λ made. made ≡ told.made_library taken.now parts.now) }
 {
     match storable_library(alloc, taken, parts, Version::Two)? {
-        None => Ok(made_large(alloc, taken)?),
+        None => {
+            let cause = too_large(alloc, taken)?;
+            Ok(made_original(alloc, taken, cause)?)
+        }
         Some(file) => Ok(made_file(alloc, taken, parts, file)?),
     }
 }
