@@ -66,16 +66,6 @@ fn stays(alloc: Global, taken: &Taken) -> Result<RowOutcome, AllocError>
     }
 }
 
-/// What a run makes of a file that is not made anew: it stays, or gets its original.
-fn kept(alloc: Global, taken: &Taken, cause: Option<Skip>) -> Result<RowOutcome, AllocError>
-    ensures { IfOk result (spec.KeepsFile taken.now cause) }
-{
-    match cause {
-        Some(cause) => Ok(RowOutcome::Original(cause)),
-        None => stays(alloc, taken),
-    }
-}
-
 // ---- which files are made
 
 /// Whether a row is that of a stale program.
@@ -339,7 +329,7 @@ fn made_of(
 
 // ---- all files
 
-/// What is made of a file: what was made of it, or that it stays or gets its original.
+/// What is made of a file: what was made of it; else it gets its original for a cause, or stays.
 fn outcome_for(
     alloc: Global,
     taken: &Taken,
@@ -350,7 +340,10 @@ fn outcome_for(
 {
     match made {
         Some(outcome) => Ok(outcome),
-        None => kept(alloc, taken, cause),
+        None => match cause {
+            Some(cause) => Ok(RowOutcome::Original(cause)),
+            None => stays(alloc, taken),
+        },
     }
 }
 
