@@ -72,23 +72,13 @@ pub fn run_stamp(files: &[Taken], stale: &[bool], last: u32, now: u32) -> Result
     stamp_after(greatest_of_files(last, files), now)
 }
 
-/// The stamp that a file bears, 0 where it is not prelinked.
-fn old_stamp(taken: &Taken) -> u32
-    ensures { result ≡ spec.old_stamp taken.now }
-{
-    match taken.marked() {
-        None => 0,
-        Some(marked) => marked.stamp,
-    }
-}
-
 fn next_stamp_of_file(taken: &Taken, is_stale: bool, stamp: u32) -> u32
     ensures { result ≡ spec.next_stamp_of_file taken.now is_stale stamp }
 {
     if !taken.is_library() {
         return 0;
     }
-    if is_stale { stamp } else { old_stamp(taken) }
+    if is_stale { stamp } else { taken.stamp() }
 }
 
 /// The stamps of the files after a run, in their order: the run's of a stale library, its old one of any other, and 0 of what is no library.
