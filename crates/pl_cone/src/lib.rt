@@ -5,7 +5,6 @@
 //! Which relocations of a library give the same in every walk of the folder is found once: where at most one object of the folder defines the name to which a relocation refers, every walk that holds both objects finds the same symbol (System V gABI chapter 5, "Shared Object Dependencies"). So programs that share libraries look up the remaining ones alone.
 #![tactic(auto)]
 
-mod asked;
 mod calls;
 mod currency;
 mod fault;
@@ -16,7 +15,6 @@ mod linking;
 mod members;
 mod needs;
 mod one_word;
-mod plan;
 mod planning;
 mod pushing;
 mod scopes;
@@ -29,15 +27,13 @@ mod taking;
 mod values;
 mod walking;
 
-pub use asked::Asked;
 pub use calls::{Cone, cone_of, prelinkable, row_of};
 pub use fault::PlanningFault;
 pub use laws::{flags_give_one_word, rule_is_one};
 pub use link::Link;
 pub use linking::library_link;
 pub use members::{modules_of, sought};
-pub use plan::RowPlan;
-pub use planning::plan_of;
+pub use planning::{Asked, RowPlan, plan_of};
 pub use scopes::WalkScope;
 pub use skip::{ConeFault, Skip};
 pub use stamps::LAST_STAMP;

@@ -6,8 +6,8 @@ use Rattle.std.proofs.lemmas.List.{append-nil}
 use Rattle.pl_cone.specs.Plans.{RunPlan, Standing, planned}
 use Rattle.pl_cone.specs.Table.{IsPlan, IsRunTable, names_where, planned_by}
 use Rattle.pl_cone.specs.Taken.{AreTaken, HasItsEntry, files_in, names_of, taken_of}
-use Rattle.pl_cone.specs.declared.asked.Asked.{Asked}
-use Rattle.pl_cone.specs.declared.plan.RowPlan.{RowPlan}
+use Rattle.pl_cone.specs.declared.planning.Asked.{Asked}
+use Rattle.pl_cone.specs.declared.planning.RowPlan.{RowPlan}
 use Rattle.pl_cone.specs.declared.table.RunTable.{RunTable}
 use Rattle.pl_cone.specs.declared.taken.Taken.{Taken}
 use Rattle.pl_cone.proofs.PlanLaws.{standings_are}

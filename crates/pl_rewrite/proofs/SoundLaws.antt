@@ -22,7 +22,7 @@ use Rattle.pl_cone.specs.Fits.{fit_in}
 use Rattle.pl_cone.specs.Plans.{greatest, greatest_of, is_candidate, is_current, is_stale, stale, stamp_for}
 use Rattle.pl_cone.specs.Skipped.{skip_causes}
 use Rattle.pl_cone.specs.Faulted.{of_cone}
-use Rattle.pl_cone.specs.declared.asked.Asked.{Asked}
+use Rattle.pl_cone.specs.declared.planning.Asked.{Asked}
 use Rattle.pl_cone.specs.Plans.{RunPlan}
 use Rattle.pl_scope.specs.Members.{has}
 use Rattle.pl_scope.proofs.NameLaws.{same_name}

@@ -30,7 +30,7 @@ pub use Rattle.pl_cone.specs.Plans
 pub use Rattle.pl_cone.specs.Skipped
 pub use Rattle.pl_cone.specs.Skips
 pub use Rattle.pl_cone.specs.Taken
-pub use Rattle.pl_cone.specs.declared.asked.Asked
+pub use Rattle.pl_cone.specs.declared.planning.Asked
 pub use Rattle.pl_cone.specs.declared.fault.PlanningFault
 pub use Rattle.pl_cone.specs.declared.skip.ConeFault
 pub use Rattle.pl_cone.specs.declared.skip.Skip

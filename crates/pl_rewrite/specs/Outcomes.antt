@@ -5,8 +5,8 @@ use Rattle.pl_cone.specs.Plans as plans
 use Rattle.pl_cone.specs.Plans.{RunPlan, planned}
 use Rattle.pl_cone.specs.Table.{IsPlan, IsRunTable, planned_by, names_where}
 use Rattle.pl_cone.specs.Taken.{files_in, is_library_entry, marked_by, names_of}
-use Rattle.pl_cone.specs.declared.asked.Asked.{Asked}
-use Rattle.pl_cone.specs.declared.plan.RowPlan.{RowPlan}
+use Rattle.pl_cone.specs.declared.planning.Asked.{Asked}
+use Rattle.pl_cone.specs.declared.planning.RowPlan.{RowPlan}
 use Rattle.pl_cone.specs.declared.skip.Skip.{Skip}
 use Rattle.pl_cone.specs.declared.skip.Skip.TheVariants as skips
 use Rattle.pl_cone.specs.declared.table.RunTable.{RunTable}
