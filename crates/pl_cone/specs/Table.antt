@@ -23,7 +23,7 @@ use Rattle.pl_cone.specs.Plans.{RunPlan, Standing, cause_of, is_stale, slot_of}
 use Rattle.pl_cone.specs.Skipped.{skip_causes, skip_of}
 use Rattle.pl_cone.specs.Taken.{AreTaken, files_in, is_library_entry, object_by}
 use Rattle.pl_cone.specs.declared.planning.Asked.{Asked}
-use Rattle.pl_cone.specs.declared.link.Link.{Link}
+use Rattle.pl_cone.specs.declared.linking.Link.{Link}
 use Rattle.pl_cone.specs.declared.planning.RowPlan.{RowPlan}
 use Rattle.pl_cone.specs.declared.scopes.WalkScope.{WalkScope}
 use Rattle.pl_cone.specs.declared.skip.Skip.{Skip}

@@ -13,7 +13,7 @@ use Rattle.pl_cone.specs.Skipped.{skip_causes}
 use Rattle.pl_cone.specs.Table.{walk_for, walked_by}
 use Rattle.pl_cone.specs.Taken.{files_in, object_by, object_of}
 use Rattle.pl_cone.specs.WalkRows.{GivesOneWordAt, HasOwnWalk}
-use Rattle.pl_cone.specs.declared.link.Link.{Link}
+use Rattle.pl_cone.specs.declared.linking.Link.{Link}
 use Rattle.pl_cone.specs.declared.taken.Taken.{Taken}
 use Rattle.pl_cone.specs.declared.values.WalkLinking.{WalkLinking}
 use Rattle.pl_cone.proofs.FolderLaws.{member_has}

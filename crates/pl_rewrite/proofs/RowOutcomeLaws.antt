@@ -11,7 +11,7 @@ use Rattle.pl_cone.specs.Skipped.{skip_causes, skip_of}
 use Rattle.pl_cone.specs.Table.{IsPlan, IsRunTable, is_candidate_row, planned_by}
 use Rattle.pl_cone.specs.Taken.{entry_in, files_in, is_library_entry, marked_by, object_by, taken_of}
 use Rattle.pl_cone.specs.declared.planning.Asked.{Asked}
-use Rattle.pl_cone.specs.declared.link.Link.{Link}
+use Rattle.pl_cone.specs.declared.linking.Link.{Link}
 use Rattle.pl_cone.specs.declared.planning.RowPlan.{RowPlan}
 use Rattle.pl_cone.specs.declared.skip.Skip.{Skip}
 use Rattle.pl_cone.specs.declared.table.RunTable.{RunTable}

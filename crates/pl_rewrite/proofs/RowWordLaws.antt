@@ -9,7 +9,7 @@ use Rattle.pl_cone.specs.Links.{IsLinkOf}
 use Rattle.pl_cone.specs.Table.{IsLinkKind, walked_by}
 use Rattle.pl_cone.specs.Candidates as candidates
 use Rattle.pl_cone.specs.Taken.{is_library_entry, object_by}
-use Rattle.pl_cone.specs.declared.link.Link.{Link}
+use Rattle.pl_cone.specs.declared.linking.Link.{Link}
 use Rattle.pl_cone.specs.declared.taken.Taken.{Taken}
 use Rattle.pl_conflict.specs.Own.{FindAll, own_words}
 use Rattle.pl_conflict.specs.Prelinked.{Firm, objects_of, slots_of}

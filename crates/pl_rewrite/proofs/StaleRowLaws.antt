@@ -10,7 +10,7 @@ use Rattle.pl_cone.specs.Plans as plans
 use Rattle.pl_cone.specs.Table.{IsPlan, IsRunTable, is_candidate_row}
 use Rattle.pl_cone.specs.Taken.{files_in}
 use Rattle.pl_cone.specs.declared.planning.Asked.{Asked}
-use Rattle.pl_cone.specs.declared.link.Link.{Link}
+use Rattle.pl_cone.specs.declared.linking.Link.{Link}
 use Rattle.pl_cone.specs.declared.planning.RowPlan.{RowPlan}
 use Rattle.pl_cone.specs.declared.skip.Skip.{Skip}
 use Rattle.pl_cone.specs.declared.taken.Taken.{Taken}

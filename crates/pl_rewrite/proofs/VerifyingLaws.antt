@@ -8,7 +8,7 @@ use Rattle.pl_cone.specs.Links.{IsLinkOf}
 use Rattle.pl_cone.specs.Skipped.{skip_causes}
 use Rattle.pl_cone.specs.Table.{IsLinkKind, walked_by}
 use Rattle.pl_cone.specs.Taken.{AreTaken, entry_in, files_in, marked_by, taken_of}
-use Rattle.pl_cone.specs.declared.link.Link.{Link}
+use Rattle.pl_cone.specs.declared.linking.Link.{Link}
 use Rattle.pl_cone.specs.declared.taken.Taken.{Taken}
 use Rattle.pl_cone.proofs.NamedFileLaws.{found}
 use Rattle.pl_cone.proofs.RowLaws.{IsRow, found_at, row_is}

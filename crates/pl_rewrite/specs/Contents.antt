@@ -3,7 +3,7 @@ use Rattle.std.specs.Prelude.{◌≡◌, ◌<◌, ℕ, false, List, [], ◌∷�
 use Rattle.std.specs.Option.{option_map}
 use Rattle.pl_cone.specs.Links.{IsLinking}
 use Rattle.pl_cone.specs.Table.{walked_by}
-use Rattle.pl_cone.specs.declared.link.Link.{Link}
+use Rattle.pl_cone.specs.declared.linking.Link.{Link}
 use Rattle.pl_cone.specs.declared.values.WalkLinking.{WalkLinking}
 use Rattle.pl_conflict.specs.Prelinked as firm
 use Rattle.pl_conflict.specs.Prelinked.{Firm, objects_of, slots_of}

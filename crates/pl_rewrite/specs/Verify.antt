@@ -8,7 +8,7 @@ use Rattle.pl_form.specs.declared.file.Marked.{Marked}
 use Rattle.pl_cone.specs.Currency.{old_stamp}
 use Rattle.pl_cone.specs.Skipped.{skip_causes}
 use Rattle.pl_cone.specs.Taken.{files_in, marked_by}
-use Rattle.pl_cone.specs.declared.link.Link.{Link}
+use Rattle.pl_cone.specs.declared.linking.Link.{Link}
 use Rattle.pl_cone.specs.declared.taken.Taken.{Taken}
 use Rattle.law_sound.specs.Rule as sound
 use Rattle.law_sound.specs.Rule.{Files, original_at}
