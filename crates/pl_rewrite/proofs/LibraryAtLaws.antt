@@ -48,7 +48,7 @@ use Rattle.pl_rewrite.specs.Forms.{IsLibraryWalk}
 use Rattle.pl_rewrite.specs.Rows.{IsNumbered, IsWalkRow, firms_of, number_at, of_firm, places_of, walk_of}
 use Rattle.pl_rewrite.specs.RowWords.{IsLinkAt, own_words_at}
 use Rattle.pl_rewrite.specs.Sources.{AreSources, AreVersionsOf, versioned}
-use Rattle.pl_rewrite.specs.declared.held.HeldWord.{HeldWord}
+use Rattle.pl_rewrite.specs.declared.row_words.HeldWord.{HeldWord}
 use Rattle.pl_rewrite.specs.declared.numbers.Numbered.{Numbered}
 use Rattle.pl_rewrite.specs.declared.program.Work.{Work}
 use Rattle.pl_rewrite.specs.declared.row_words.RowWords.{RowWords}

@@ -27,7 +27,7 @@ use Rattle.pl_rewrite.specs.Held.{AreHeld}
 use Rattle.pl_rewrite.specs.Rows.{IsFirmAt, IsWalkRow, firm_by, firms_of, is_library_row, places_of, walk_of}
 use Rattle.pl_rewrite.specs.RowWords.{AreHeldAt, AreOfRow, FindsRow, IsLinkAt, AreRowWordsAt, AreRowWordsBy, RowWordsTo, is_asked, is_needed, is_set, own_words_at}
 use Rattle.pl_rewrite.specs.Sources.{AreSources}
-use Rattle.pl_rewrite.specs.declared.held.HeldWord.{HeldWord}
+use Rattle.pl_rewrite.specs.declared.row_words.HeldWord.{HeldWord}
 use Rattle.pl_rewrite.specs.declared.numbers.Numbered.{Numbered}
 use Rattle.pl_rewrite.specs.declared.row_words.Needed.{Needed}
 use Rattle.pl_rewrite.specs.declared.row_words.RowWords.{RowWords}

@@ -8,8 +8,6 @@ mod conflict;
 mod copies;
 mod finishing;
 mod flags;
-mod given;
-mod held;
 mod laws;
 mod library;
 mod lists;

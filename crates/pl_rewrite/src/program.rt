@@ -6,9 +6,8 @@ ghost use Rattle.pl_rewrite.specs.Contents as contents;
 ghost use Rattle.pl_rewrite.specs.Fills.{AreFirstFills};
 
 use crate::apart::are_set;
-use crate::conflict::{RemainingRows, remaining_rows};
+use crate::conflict::{RemainingRows, own_meanings, remaining_rows};
 use crate::copies::program_fills;
-use crate::given::own_meanings;
 use crate::lists::{digest_at, list_of};
 use crate::numbers::{Numbered, PlacedWalk};
 use crate::outcome::NewProgram;

@@ -4,7 +4,7 @@ use Rattle.std.proofs.lemmas.List.{take_all}
 use Rattle.pl_conflict.proofs.HeldWordLaws.{zip_more}
 use Rattle.pl_rewrite.proofs.HeldLaws.{told_by}
 use Rattle.pl_rewrite.specs.Held.{IsHeldIn}
-use Rattle.pl_rewrite.proofs.held.held_words.Goals as goal
+use Rattle.pl_rewrite.proofs.row_words.held_words.Goals as goal
 
 pub loop-index-preserved : goal.loop-index-preserved
 loop-index-preserved c =

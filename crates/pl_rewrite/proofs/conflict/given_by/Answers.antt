@@ -13,7 +13,7 @@ use Rattle.pl_object.specs.declared.reloc.Reloc.{Reloc}
 use Rattle.pl_scope.specs.declared.found.Found.{Found}
 use Rattle.pl_value.specs.Definers.{IsSought}
 use Rattle.pl_value.specs.Values.{reference}
-use Rattle.pl_rewrite.proofs.given.given_by.Goals as goal
+use Rattle.pl_rewrite.proofs.conflict.given_by.Goals as goal
 
 pub loop-index-init : goal.loop-index-init
 loop-index-init c = rw (c.from_vec-all.ensures ∙ c.in_ok-with_capacity.ensures.items) (front_nothing (given_in c.args.linking.now 0 c.args.relocs.now))

@@ -1,6 +1,6 @@
 use Rattle.pl_scope.specs.Scope.{objects}
 use Rattle.pl_value.proofs.LinkableLaws.{all_symbols}
-use Rattle.pl_rewrite.proofs.given.own_meanings.Goals as goal
+use Rattle.pl_rewrite.proofs.conflict.own_meanings.Goals as goal
 
 pub given_by-requires-clause-references : goal.given_by-requires-clause-references
 given_by-requires-clause-references c =

@@ -4,7 +4,7 @@ use Rattle.pl_image.proofs.PlacedLaws.{alone}
 use Rattle.pl_image.specs.declared.loaded_object.LoadedObject.{LoadedObject}
 use Rattle.pl_rewrite.proofs.HeldLaws.{placed_zero}
 use Rattle.pl_rewrite.specs.Held.{IsHeldIn}
-use Rattle.pl_rewrite.proofs.held.held_remaining.Goals as goal
+use Rattle.pl_rewrite.proofs.row_words.held_remaining.Goals as goal
 
 pub load_object-requires : goal.load_object-requires
 load_object-requires c = placed_zero c.args.original.now c.args.object.now c.requires.original
