@@ -7,7 +7,6 @@ mod apart;
 mod conflict;
 mod copies;
 mod finishing;
-mod flags;
 mod laws;
 mod library;
 mod lists;

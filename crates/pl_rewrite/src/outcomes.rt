@@ -7,14 +7,13 @@ ghost use Rattle.pl_rewrite.specs.RowWords as by_rows;
 ghost use Rattle.pl_rewrite.specs.Contents as contents;
 
 use crate::RowState;
-use crate::flags::flag_all;
 use crate::library::new_library;
 use crate::lists::digests_of;
 use crate::numbers::Numbered;
 use crate::outcome::RowOutcome;
 use crate::own_words::OwnWords;
 use crate::program::{Work, program_file};
-use crate::row_words::{Needed, RowWords, words_of_rows};
+use crate::row_words::{Needed, RowWords, flag_all, words_of_rows};
 use pl_base::{Rows, Text};
 use pl_cone::{Link, RowPlan, RunTable, Skip, Taken};
 use pl_form::{Marked, Version};

@@ -3,6 +3,8 @@ ghost use Rattle.std.specs.Prelude.{◌≡◌, ◌<◌, true, IfOk, length};
 ghost use Rattle.std.specs.List.{All, AllZip};
 ghost use Rattle.pl_form.specs.Library.{IsFirmLibrary};
 ghost use Rattle.pl_image.specs.Image.{AreLoaded};
+ghost use Rattle.pl_cone.specs.Table.{AreBelow};
+ghost use Rattle.pl_rewrite.specs.Flags as flags_by;
 ghost use Rattle.pl_rewrite.specs.Held as held_by;
 ghost use Rattle.pl_rewrite.specs.Rows as spec;
 ghost use Rattle.pl_rewrite.specs.RowWords as by_rows;
@@ -44,6 +46,26 @@ pub struct RowWords {
 pub struct Needed<'t> {
     pub made: &'t [bool],
     pub held: &'t [bool],
+}
+
+/// Flags rows.
+pub fn flag_all(flags: &mut [bool], rows: &[u32])
+    requires { AreBelow (length flags.old) rows.now }
+    ensures { flags_by.FlagsAll rows.now flags.old flags.new }
+{
+    for row in rows {
+        flags[*row as usize] = true;
+    }
+}
+
+/// A flag for each of so many rows, set for these.
+pub fn flags_of(alloc: Global, count: usize, rows: &[u32]) -> Result<Vec<bool>, AllocError>
+    requires { AreBelow count rows.now }
+    ensures { IfOk result (λ v. flags_by.AreFlagsOf count rows.now v.items) }
+{
+    let mut flags = Vec::from_elem(alloc, false, count)?;
+    flag_all(&mut flags, rows);
+    Ok(flags)
 }
 
 /// Nothing is asked.

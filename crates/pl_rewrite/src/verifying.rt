@@ -10,14 +10,13 @@ ghost use Rattle.pl_rewrite.specs.Rows as rows;
 ghost use Rattle.pl_rewrite.specs.RowWords as by_rows;
 ghost use Rattle.pl_rewrite.specs.Verify as spec;
 
-use crate::flags::flags_of;
 use crate::library::{new_library, storable_library};
 use crate::lists::digests_of;
 use crate::numbers::Numbered;
 use crate::outcomes::held_by_programs;
 use crate::own_words::OwnWords;
 use crate::program::{Work, program_file};
-use crate::row_words::{Needed, RowWords, is_needed, words_of_rows};
+use crate::row_words::{Needed, RowWords, flags_of, is_needed, words_of_rows};
 use pl_base::Rows;
 use pl_cone::{FolderWalks, Link, Taken, WalkScope, index_of, library_link, row_of, walks_of};
 use pl_form::{Marked, Version};

@@ -3,7 +3,7 @@ use Rattle.std.proofs.lemmas.List.{take_at}
 use Rattle.pl_cone.specs.Table.{AreBelow}
 use Rattle.pl_rewrite.specs.Flags.{AreFlagsOf}
 use Rattle.pl_rewrite.proofs.FlagLaws.{flags_count, flags_made}
-use Rattle.pl_rewrite.proofs.flags.flags_of.Goals as goal
+use Rattle.pl_rewrite.proofs.row_words.flags_of.Goals as goal
 
 pub flag_all-requires : goal.flag_all-requires
 flag_all-requires c =

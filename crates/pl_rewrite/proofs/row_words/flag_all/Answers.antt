@@ -1,6 +1,6 @@
 use Rattle.std.proofs.Common.{◌<◌, get_or, length, arith}
 use Rattle.pl_rewrite.proofs.FlagLaws.{flags_begin, flags_done, flags_more}
-use Rattle.pl_rewrite.proofs.flags.flag_all.Goals as goal
+use Rattle.pl_rewrite.proofs.row_words.flag_all.Goals as goal
 
 pub loop-row-init : goal.loop-row-init
 loop-row-init c = flags_begin c.args.flags.now
