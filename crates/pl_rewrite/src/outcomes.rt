@@ -263,28 +263,6 @@ fn with_libraries(
     Ok(all)
 }
 
-/// What a run makes of the stale programs, by what is told of the rows that they are made of.
-fn programs_of(
-    alloc: Global,
-    numbered: &Numbered<'_>,
-    digests: &[Option<[u8; 32]>],
-    stale: &[bool],
-    row_words: &[RowWords],
-) -> Result<Vec<Option<RowOutcome>>, NoMemory>
-    requires numbered { rows.IsNumbered numbered.now }
-    requires stale { spec.IsStaleColumn numbered.now stale.now }
-    requires digests { told_digests.HaveDigests numbered.now digests.now }
-    requires row_words { spec.AreToldRows numbered.now stale.now row_words.now }
-    ensures { IfOk result (λ v. spec.AreProgramsMade numbered.now stale.now v.items) }
-{
-    let work = Work {
-        numbered: &*numbered,
-        row_words: &*row_words,
-        digests: &*digests,
-    };
-    program_outcomes(alloc, &work, stale)
-}
-
 /// What is told of the rows of the files that are stale, and of the members of their walks.
 fn words_told(
     alloc: Global,
@@ -322,7 +300,13 @@ fn made_of(
     let row_words = words_told(alloc, numbered, links, stale)?;
     let made = digests_of(alloc, numbered.files, stale)?;
     let digests = made.as_slice();
-    let programs = programs_of(alloc, numbered, digests, stale, row_words.as_slice())?;
+    let told = row_words.as_slice();
+    let work = Work {
+        numbered: &*numbered,
+        row_words: told,
+        digests,
+    };
+    let programs = program_outcomes(alloc, &work, stale)?;
     with_libraries(alloc, numbered, digests, stale, row_words, programs)
 }
 
