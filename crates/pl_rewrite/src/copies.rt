@@ -269,15 +269,6 @@ fn fills_of(
     Ok(fills)
 }
 
-/// The words that meanings give.
-fn word_patches(alloc: Global, meanings: &[Meaning]) -> Result<Patches, AllocError>
-    ensures { IfOk result (λ p. p ≡ linked.words meanings.now) }
-{
-    let patches = words(alloc, meanings)?;
-    let indexed = Patches::new(alloc, patches)?;
-    Ok(indexed)
-}
-
 /// The bytes at the places of a program, as its scope makes them: a fill for each of its own relocations that is not NONE, in their order. `walk` has the rows of its walk, it first, `near` the words of the walk in the ranges from which it copies, and `meanings` what its relocations give. The time grows as `n log n`, and as what is copied.
 pub fn program_fills(
     alloc: Global,
@@ -294,13 +285,14 @@ pub fn program_fills(
     ensures { IfOk result (λ v. spec.AreFillsNear numbered.now walk.now near.now relocs.now
         meanings.now v.items) }
 {
-    let patches = word_patches(alloc, near)?;
+    let patches = words(alloc, near)?;
+    let indexed = Patches::new(alloc, patches)?;
     let loaded = members_loaded(alloc, numbered, walk)?;
     let filling = Filling {
         numbered,
         walk,
         loaded: &loaded,
-        near: &patches,
+        near: &indexed,
     };
     let fills = fills_of(alloc, &filling, relocs, meanings)?;
     Ok(fills)
