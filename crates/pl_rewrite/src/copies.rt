@@ -134,22 +134,6 @@ fn standing_at(alloc: Global, filling: &Filling<'_>, reloc: &Reloc) -> Result<Ve
     read_loaded(alloc, loaded, reloc.address, reloc.width)
 }
 
-/// What is copied of a member's memory, with the words that stand there.
-fn copied(
-    alloc: Global,
-    filling: &Filling<'_>,
-    member: u32,
-    from: u64,
-    bytes: u64,
-) -> Result<Vec<u8>, AllocError>
-    requires filling { spec.IsFilling filling.now }
-    requires member { member < length filling.now.walk.now }
-    ensures { IfOk result (λ v. spec.AreCopied filling.now member from bytes v.items) }
-{
-    let loaded = one_of(filling.loaded, member);
-    filling.near.read(alloc, loaded, from, bytes)
-}
-
 /// The bytes of a word, the lowest first.
 fn word_bytes(alloc: Global, word: u64) -> Result<Vec<u8>, AllocError>
     ensures { IfOk result (λ v. v.items ≡ bytes64 word) }
@@ -173,7 +157,8 @@ fn copied_over(
     ensures { IfOk result (λ v. spec.FillsCopy filling.now reloc.now member from bytes v.items) }
 {
     let standing = standing_at(alloc, filling, reloc)?;
-    let first = copied(alloc, filling, member, from, bytes)?;
+    let loaded = one_of(filling.loaded, member);
+    let first = filling.near.read(alloc, loaded, from, bytes)?;
     let before = standing.as_slice();
     let over = first.as_slice();
     let all = put_first(alloc, before, over)?;
