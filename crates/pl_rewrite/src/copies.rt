@@ -187,25 +187,6 @@ fn bytes_at(
     }
 }
 
-/// The fill of a relocation of the program.
-fn fill_at(
-    alloc: Global,
-    filling: &Filling<'_>,
-    reloc: &Reloc,
-    meaning: &Meaning,
-) -> Result<Fill, AllocError>
-    requires filling { spec.IsFilling filling.now }
-    requires member { spec.IsFillOf filling.now.walk.now meaning.now.word }
-    ensures { IfOk result (spec.IsFillAt filling.now reloc.now meaning.now) }
-{
-    let bytes = bytes_at(alloc, filling, reloc, meaning)?;
-    let rows = Rows::from_vec(bytes);
-    Ok(Fill {
-        address: reloc.address,
-        bytes: rows,
-    })
-}
-
 /// Whether a relocation has a place: NONE has none.
 fn has_place(reloc: &Reloc) -> bool
     ensures { result ≡ form.has_place reloc.now }
@@ -230,8 +211,12 @@ fn push_fill(
     if !placed {
         return Ok(());
     }
-    let fill = fill_at(alloc, filling, reloc, meaning)?;
-    fills.push(fill)?;
+    let bytes = bytes_at(alloc, filling, reloc, meaning)?;
+    let rows = Rows::from_vec(bytes);
+    fills.push(Fill {
+        address: reloc.address,
+        bytes: rows,
+    })?;
     Ok(())
 }
 
