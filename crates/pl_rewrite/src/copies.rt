@@ -6,7 +6,6 @@ ghost use Rattle.pl_form.specs.Words as form;
 ghost use Rattle.pl_image.specs.Image.{AreLoaded};
 ghost use Rattle.pl_rewrite.specs.Copies as spec;
 ghost use Rattle.pl_rewrite.specs.Rows as rows;
-ghost use Rattle.pl_value.specs.Linked as linked;
 
 use crate::numbers::Numbered;
 use pl_base::{Rows, push64};
