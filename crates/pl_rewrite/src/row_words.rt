@@ -1,7 +1,6 @@
 // What the relocations of files give, once the slots are known.
 ghost use Rattle.std.specs.Prelude.{◌≡◌, ◌<◌, true, IfOk, length};
 ghost use Rattle.std.specs.List.{All, AllZip};
-ghost use Rattle.pl_form.specs.Library.{IsFirmLibrary};
 ghost use Rattle.pl_image.specs.Image.{AreLoaded};
 ghost use Rattle.pl_cone.specs.Table.{AreBelow};
 ghost use Rattle.pl_rewrite.specs.Flags as flags_by;
@@ -16,7 +15,7 @@ use pl_cone::Link;
 use pl_conflict::{own_words_by, word_held};
 use pl_image::{LoadedObject, load_object};
 use pl_io::NoMemory;
-use pl_object::{Object, Reloc};
+use pl_object::Reloc;
 use pl_scope::Found;
 use std::alloc::{AllocError, Global};
 
@@ -139,28 +138,7 @@ fn held_words(
     Ok(all)
 }
 
-/// For each of these relocations of a library, in their order, the word that its prelinked file holds at its place, where `words` are its own words. The file need not be there. It fails only for want of memory.
-///
-/// The library was accepted from the original, so that all places of its relocations stand in the file, and no two share a byte.
-fn held_remaining(
-    alloc: Global,
-    object: &Object,
-    original: &[u8],
-    words: &[Option<u64>],
-    remaining: &[u32],
-) -> Result<Rows<HeldWord>, AllocError>
-    requires original { IsFirmLibrary original.now object.now }
-    requires words { length words.now ≡ length object.now.relocations }
-    requires remaining { All (λ i. i < length object.now.relocations) remaining.now }
-    ensures { IfOk result (held_by.AreHeld original.now object.now words.now remaining.now) }
-{
-    let loaded = load_object(alloc, object, original, 0)?;
-    let relocs = object.relocations.as_slice();
-    let held = held_words(alloc, &[loaded], relocs, words, remaining)?;
-    Ok(held)
-}
-
-/// The words that the file of the library of a row holds at the places of its remaining relocations.
+/// The words that the prelinked file of the library of a row holds at the places of its remaining relocations, where `words` are its own words. The file need not be there.
 fn held_of(
     alloc: Global,
     numbered: &Numbered<'_>,
@@ -178,7 +156,9 @@ fn held_of(
     let Some(object) = taken.object() else {
         return Ok(Rows::new(alloc));
     };
-    let held = held_remaining(alloc, object, taken.original(), words, remaining)?;
+    let relocs = object.relocations.as_slice();
+    let loaded = load_object(alloc, object, taken.original(), 0)?;
+    let held = held_words(alloc, &[loaded], relocs, words, remaining)?;
     Ok(held)
 }
 
