@@ -198,13 +198,6 @@ fn enter(
     append(alloc, needs, walking, needs.of_row(number))
 }
 
-/// A copy of numbers with no room behind it.
-fn rows_of(alloc: Global, numbers: &[u32]) -> Result<Rows<u32>, AllocError>
-    ensures { IfOk result (λ rows. rows ≡ numbers.now) }
-{
-    Ok(Rows::from_vec(Vec::from_slice(alloc, numbers)?))
-}
-
 /// The rows of the members of a row's walk, or the first refusal.
 fn walk_of(
     alloc: Global,
@@ -224,7 +217,8 @@ fn walk_of(
     for index in 0..MAX_MEMBERS {
         enter(alloc, needs, walking, index)?;
     }
-    Ok(rows_of(alloc, &walking.numbers)?)
+    let rows = Vec::from_slice(alloc, &walking.numbers)?;
+    Ok(Rows::from_vec(rows))
 }
 
 /// Adds a walk, or why it is refused.
