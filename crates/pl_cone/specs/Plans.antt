@@ -6,7 +6,7 @@ use Rattle.pl_base.specs.Answers.{◌>>=◌, because, unless}
 use Rattle.pl_cone.specs.declared.skip.ConeFault.{ConeFault}
 use Rattle.pl_cone.specs.declared.skip.ConeFault.TheVariants.{StampsSpent}
 use Rattle.pl_cone.specs.declared.skip.Skip.{Skip}
-use Rattle.pl_cone.specs.declared.stamps.TheConstants.{LAST_STAMP}
+use Rattle.pl_cone.specs.declared.currency.TheConstants.{LAST_STAMP}
 use Rattle.pl_elf.specs.Kinds.{is_library}
 use Rattle.pl_object.specs.declared.object.Object.{Object}
 use Rattle.pl_conflict.specs.Format.{format}

@@ -6,9 +6,8 @@ ghost use Rattle.pl_cone.specs.Plans.{planned};
 ghost use Rattle.pl_cone.specs.Table as columns;
 ghost use Rattle.pl_cone.specs.Taken.{files_in, names_of};
 
-use crate::currency::stale_rows;
+use crate::currency::{run_stamp, stale_rows, stamps_of};
 use crate::slots::{PlannedSlots, slots_of};
-use crate::stamps::{run_stamp, stamps_of};
 use crate::{PlanningFault, RunTable};
 use pl_base::Rows;
 use pl_elf::Range;

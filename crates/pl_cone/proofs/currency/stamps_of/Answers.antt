@@ -4,7 +4,7 @@ use Rattle.std.proofs.lemmas.Option.{slice_get_read, slice_get-get_or}
 use Rattle.pl_cone.specs.Currency.{is_set, next_stamp_of_file, stamp_at, stamp_in}
 use Rattle.pl_cone.specs.declared.taken.Taken.{Taken}
 use Rattle.pl_cone.proofs.NumberLaws.{column_more}
-use Rattle.pl_cone.proofs.stamps.stamps_of.Goals as goal
+use Rattle.pl_cone.proofs.currency.stamps_of.Goals as goal
 
 stamp_here : (ts : List Taken) (stale : List Bool) (stamp row : ℕ) (t : Taken) (b : Bool) → slice_get ts row ≡ Some t → slice_get stale row ≡ Some b → next_stamp_of_file t b stamp ≡ stamp_at ts stale stamp row
 stamp_here ts stale stamp row t b at flag =
