@@ -13,9 +13,9 @@ use Rattle.pl_rewrite.specs.Libraries.{IsNewIfAny}
 use Rattle.pl_rewrite.specs.Outcomes.{AreAll, AreProgramsMade, IsIf, IsLibraryIf, IsMadeAt, IsOutcomeFor, IsProgramIf, IsTooLarge, is_library_at, is_stale, too_large}
 use Rattle.pl_rewrite.specs.Rows.{IsFileMeant, IsWalkRow, firms_of, is_library_row}
 use Rattle.pl_rewrite.specs.declared.numbers.Numbered.{Numbered}
-use Rattle.pl_rewrite.specs.declared.outcome.NewLibrary.{NewLibrary}
-use Rattle.pl_rewrite.specs.declared.outcome.NewProgram.{NewProgram}
-use Rattle.pl_rewrite.specs.declared.outcome.RowOutcome.{RowOutcome}
+use Rattle.pl_rewrite.specs.declared.outcomes.NewLibrary.{NewLibrary}
+use Rattle.pl_rewrite.specs.declared.outcomes.NewProgram.{NewProgram}
+use Rattle.pl_rewrite.specs.declared.outcomes.RowOutcome.{RowOutcome}
 use Rattle.pl_rewrite.proofs.RowByRowLaws.{each_pushed}
 use Rattle.pl_rewrite.proofs.VersionLaws.{firms_in_two, set_versions, sources_versions}
 use Rattle.pl_rewrite.proofs.WholeLaws.{prelinked_none}

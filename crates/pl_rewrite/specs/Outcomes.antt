@@ -28,10 +28,10 @@ use Rattle.pl_rewrite.specs.Contents.{IsNewProgram, IsProgramRow}
 use Rattle.pl_rewrite.specs.declared.finishing.MadeFiles.{MadeFiles}
 use Rattle.pl_rewrite.specs.declared.finishing.Made.{Made}
 use Rattle.pl_rewrite.specs.declared.numbers.Numbered.{Numbered}
-use Rattle.pl_rewrite.specs.declared.outcome.NewLibrary.{NewLibrary}
-use Rattle.pl_rewrite.specs.declared.outcome.NewProgram.{NewProgram}
-use Rattle.pl_rewrite.specs.declared.outcome.RowOutcome.{RowOutcome}
-use Rattle.pl_rewrite.specs.declared.outcome.RowOutcome.TheVariants as outcomes
+use Rattle.pl_rewrite.specs.declared.outcomes.NewLibrary.{NewLibrary}
+use Rattle.pl_rewrite.specs.declared.outcomes.NewProgram.{NewProgram}
+use Rattle.pl_rewrite.specs.declared.outcomes.RowOutcome.{RowOutcome}
+use Rattle.pl_rewrite.specs.declared.outcomes.RowOutcome.TheVariants as outcomes
 use Rattle.pl_rewrite.specs.declared.program.Work.{Work}
 use Rattle.pl_rewrite.specs.declared.report.RowState.{RowState}
 use Rattle.pl_rewrite.specs.declared.report.RowState.TheVariants as states

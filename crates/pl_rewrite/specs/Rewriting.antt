@@ -14,7 +14,7 @@ use Rattle.pl_cone.specs.Faulted.{is_memory}
 use Rattle.pl_cone.specs.declared.planning.RowPlan.{RowPlan}
 use Rattle.pl_rewrite.specs.Outcomes.{IsOutcome, planned_of}
 use Rattle.pl_rewrite.specs.Reports.{report, row_of}
-use Rattle.pl_rewrite.specs.declared.outcome.RowOutcome.{RowOutcome}
+use Rattle.pl_rewrite.specs.declared.outcomes.RowOutcome.{RowOutcome}
 use Rattle.pl_rewrite.specs.declared.rewriting.Decided.{Decided}
 use Rattle.pl_rewrite.specs.declared.finishing.MadeFiles.{MadeFiles}
 use Rattle.pl_rewrite.specs.declared.rewriting.Rewritten.{Rewritten}

@@ -7,8 +7,7 @@ ghost use Rattle.pl_rewrite.specs.Outcomes as told;
 ghost use Rattle.pl_rewrite.specs.Rewriting as spec;
 
 use crate::library::storable_library;
-use crate::outcome::{NewLibrary, NewProgram, RowOutcome};
-use crate::outcomes::too_large;
+use crate::outcomes::{NewLibrary, NewProgram, RowOutcome, too_large};
 use crate::rewriting::Rewritten;
 use crate::{Report, ReportRow, RowState};
 use pl_base::{Rows, Text};

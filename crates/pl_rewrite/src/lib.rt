@@ -11,7 +11,6 @@ mod laws;
 mod library;
 mod lists;
 mod numbers;
-mod outcome;
 mod outcomes;
 mod own_words;
 mod program;

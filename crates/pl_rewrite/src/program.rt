@@ -10,7 +10,7 @@ use crate::conflict::{RemainingRows, own_meanings, remaining_rows};
 use crate::copies::program_fills;
 use crate::lists::{digest_at, list_of};
 use crate::numbers::{Numbered, PlacedWalk};
-use crate::outcome::NewProgram;
+use crate::outcomes::NewProgram;
 use crate::row_words::RowWords;
 use pl_cone::{WalkLinking, modules_of};
 use pl_form::{Fill, FormFault, Version, form_program_with};
