@@ -12,10 +12,9 @@ ghost use Rattle.pl_scope.specs.Scope.{objects, IsSymbol};
 ghost use Rattle.pl_value.specs.Definers.{IsSought};
 ghost use Rattle.pl_value.specs.Values.{reference};
 
-use crate::members::{modules_of, sought};
 use crate::one_word::gives_one_word;
 use crate::pushing::push_some;
-use crate::values::{WalkLinking, first_found, others_have_values};
+use crate::values::{WalkLinking, first_found, modules_of, others_have_values, sought};
 use crate::{Skip, Taken, WalkScope};
 use pl_base::{Rows, Text};
 use pl_io::NoMemory;
