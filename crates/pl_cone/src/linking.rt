@@ -13,7 +13,6 @@ ghost use Rattle.pl_value.specs.Definers.{IsSought};
 ghost use Rattle.pl_value.specs.Values.{reference};
 
 use crate::one_word::gives_one_word;
-use crate::pushing::push_some;
 use crate::values::{WalkLinking, first_found, modules_of, others_have_values, sought};
 use crate::{Skip, Taken, WalkScope};
 use pl_base::{Rows, Text};
@@ -136,10 +135,7 @@ pub fn library_link(alloc: Global, own: &WalkScope<'_>, index: &Index) -> Result
     for number in 0..relocs.len() {
         let reloc = &relocs[number];
         let found = sought(&own.scope, reference_of(0, reloc), &among);
-        push_some(
-            &mut remaining,
-            remaining_number(index, &own.scope, reloc, found, number as u32),
-        )?;
+        remaining.push_some(remaining_number(index, &own.scope, reloc, found, number as u32))?;
         all.push(found)?;
     }
     Ok(Link {

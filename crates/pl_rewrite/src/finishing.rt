@@ -1,6 +1,6 @@
 // What is made of files by their outcomes; each file is let go in its turn.
-ghost use Rattle.std.specs.Prelude.{◌≡◌, ◌++◌, [], ◌||◌, IfOk, OnOk, Some, if◌then◌else◌};
-ghost use Rattle.std.specs.List.{All, cons_option};
+ghost use Rattle.std.specs.Prelude.{◌≡◌, ◌||◌, IfOk, Some, if◌then◌else◌};
+ghost use Rattle.std.specs.List.{All};
 ghost use Rattle.pl_cone.specs.Taken.{HasItsEntry, files_in, names_of};
 ghost use Rattle.pl_rewrite.specs.Changes as changes;
 ghost use Rattle.pl_rewrite.specs.Outcomes as told;
@@ -154,16 +154,6 @@ fn made_last(alloc: Global, taken: &Taken, outcome: RowOutcome) -> Result<Made, 
     }
 }
 
-/// Adds a row, where there is one.
-fn add_row(rows: &mut Rows<Change>, row: Option<Change>) -> Result<(), AllocError>
-    ensures { OnOk result (rows.new ≡ rows.old ++ cons_option row []) }
-{
-    match row {
-        None => Ok(()),
-        Some(row) => rows.push(row),
-    }
-}
-
 /// The name of a file that is let go.
 fn name_of(taken: Taken) -> Text
     ensures { result ≡ taken.name }
@@ -181,7 +171,7 @@ fn add_made(all: MadeFiles, name: Text, made: Made) -> Result<MadeFiles, AllocEr
         mut states,
         given,
     } = all;
-    add_row(&mut rows, made.change)?;
+    rows.push_some(made.change)?;
     states.push(ReportRow {
         name,
         state: made.state,
