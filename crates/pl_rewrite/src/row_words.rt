@@ -124,7 +124,8 @@ fn held_words(
     requires one { 0 < length original.now }
     requires words { length words.now ≡ length relocs.now }
     requires remaining { All (λ i. i < length relocs.now) remaining.now }
-    ensures { IfOk result (AllZip (held_by.IsHeldIn original.now relocs.now words.now) remaining.now) }
+    ensures { IfOk result (AllZip (held_by.IsHeldIn original.now relocs.now words.now)
+        remaining.now) }
 {
     let mut all = Rows::new(alloc);
     for index in remaining {
