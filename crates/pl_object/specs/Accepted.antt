@@ -56,10 +56,6 @@ dynamic_table bytes o = loaded bytes o.segments (dynamic_memory o.segments)
 abbrev pub tags_of : List ℕ → Object → List Tag
 tags_of bytes o = tags (dynamic_table bytes o)
 
--- the bytes of the symbol table
-abbrev pub symbol_table : List ℕ → Object → List ℕ
-symbol_table bytes o = loaded bytes o.segments (symbols_memory (tags_of bytes o) o.sections)
-
 -- the dynamic table and each table that a tag names, with these tags, lie in the file part, in whole rows
 pub record AreWhole (o : Object) (ts : List Tag) : Type 0 where
   pub dynamic : is_some (segment_of_kind PT_DYNAMIC o.segments) ≡ true
