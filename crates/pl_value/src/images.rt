@@ -1,5 +1,5 @@
 // The ordinary image of a scope.
-ghost use Rattle.std.specs.Prelude.{◌≡◌, ◌<◌, length, IfOk};
+ghost use Rattle.std.specs.Prelude.{◌≡◌, length, IfOk};
 ghost use Rattle.std.specs.List.{list_any};
 ghost use Rattle.pl_base.specs.Memory.{layered};
 ghost use Rattle.pl_image.specs.Image.{all_pieces, patched, AreLoaded};
