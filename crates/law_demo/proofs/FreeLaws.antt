@@ -25,7 +25,7 @@ use Rattle.pl_cone.specs.Plans.{is_candidate, planned}
 use Rattle.pl_cone.specs.Skipped.{skip_causes}
 use Rattle.pl_loader.specs.Places.{kept_free, misses}
 use Rattle.pl_object.specs.declared.object.Object.{Object}
-use Rattle.pl_cone.specs.declared.asked.Asked.{Asked}
+use Rattle.pl_cone.specs.declared.planning.Asked.{Asked}
 use Rattle.pl_cone.specs.Plans.{RunPlan}
 use Rattle.pl_rewrite.specs.Changes.{from_scratch, numbers}
 use Rattle.pl_rewrite.specs.Laws.{AreNames}

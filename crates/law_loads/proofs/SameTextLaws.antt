@@ -1,21 +1,28 @@
 -- Memories that are one at every address have one text.
-use Rattle.std.proofs.Common.{◌≡◌, ℕ, zero, suc, ◌+◌, ◌*◌, ◌^◌, List, [], ◌∷◌, ◌++◌, Option, None, refl, ap, ◌∙◌}
+use Rattle.std.proofs.Common.{◌≡◌, ℕ, zero, suc, ◌+◌, ◌*◌, ◌^◌, ◌<◌, List, [], ◌∷◌, ◌++◌, Option, None, refl, sym, ap, ◌∙◌, arith}
 use Rattle.std.specs.Prelude.{if◌then◌else◌}
 use Rattle.std.specs.List.{list_any, flat_map}
 use Rattle.std.specs.Option.{unwrap_or}
+use Rattle.std.proofs.lemmas.List.{ext_get_or}
 use Rattle.pl_base.specs.Bytes.{word64}
-use Rattle.pl_base.specs.Memory.{Memory}
+use Rattle.pl_base.specs.Memory.{Memory, read}
+use Rattle.pl_base.proofs.MemoryLaws.{read_length, read_byte}
 use Rattle.pl_elf.specs.declared.range.Range.{Range}
 use Rattle.pl_elf.specs.Ranges.{has}
 use Rattle.pl_image.specs.Lines.{word_in, unless_zero, word_line, lines_from, word_lines, only, text}
-use Rattle.pl_value.proofs.ReadLaws.{read_same}
 
 abbrev Same : Memory → Memory → Type 0
 Same m k = (address : ℕ) → m address ≡ k address
 
+read_same : (m k : Memory) (start size : ℕ) → Same m k → read m start size ≡ read k start size
+read_same m k start size same =
+    ext_get_or 0 (read m start size) (read k start size) (read_length m start size ∙ sym (read_length k start size)) (λ i lt.
+    let within : i < size = omega (arith, lt, read_length m start size) in
+    read_byte m start size i within ∙ ap (λ (v : Option ℕ). unwrap_or v 0) (same (start + i)) ∙ sym (read_byte k start size i within))
+
 word_same : (m k : Memory) (address : ℕ) → Same m k → word_in m address ≡ word_in k address
 unfolding word_in
-word_same m k address same = ap (word64 0) (read_same m k address 8 (λ i lt. ap (λ (o : Option ℕ). unwrap_or o 0) (same (address + i))))
+word_same m k address same = ap (word64 0) (read_same m k address 8 same)
 
 line_same : (m k : Memory) (number : ℕ) → Same m k → word_line m number ≡ word_line k number
 unfolding word_line

@@ -1,5 +1,5 @@
 -- How counts of faults go on from one call to the next.
-use Rattle.std.proofs.Common.{◌≡◌, ℕ, Bool, false, refl, subst}
+use Rattle.std.proofs.Common.{ℕ, Bool, false, refl, subst}
 use Rattle.pl_base.specs.Counts.{Counted}
 
 -- a call that did not fail, and another

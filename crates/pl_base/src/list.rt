@@ -1,4 +1,5 @@
 ghost use Rattle.std.specs.Prelude.{◌≡◌, ◌∷◌, ◌++◌, ◌↔◌, [], List, length, IsTrue, OnOk, OnErr};
+ghost use Rattle.std.specs.List.{cons_option};
 
 use std::alloc::{AllocError, Global};
 use std::marker::Model;
@@ -70,5 +71,16 @@ impl<T: Drop> Rows<T> {
     {
         self.rows.push(row)?;
         Ok(())
+    }
+
+    /// Adds a row at the end, where there is one. After a want of memory the rows are as before.
+    pub fn push_some(&mut self, row: Option<T>) -> Result<(), AllocError>
+        ensures ok { OnOk result (self.new ≡ self.old ++ cons_option row []) }
+        ensures err { OnErr result (self.new ≡ self.old) }
+    {
+        match row {
+            None => Ok(()),
+            Some(row) => self.push(row),
+        }
     }
 }

@@ -50,7 +50,7 @@ impl Text {
         })
     }
 
-    /// The same text once more. One of `to_share` shares its memory; of any other it is a copy. It fails only for want of memory.
+    /// The text once more: one of `to_share` shares its memory, of any other it is a copy. It fails only for want of memory.
     pub fn again(&self, alloc: Global) -> Result<Text, AllocError>
         ensures { IfOk result (λ t. t ≡ self.now) }
     {

@@ -1,5 +1,5 @@
 -- The number of a faulty line of a recipe: no more than the recipe has bytes, since the line is not empty, or 1.
-use Rattle.std.proofs.Common.{◌≡◌, ◌≢◌, ℕ, zero, suc, ◌+◌, ◌<◌, ◌≤◌, ◌^◌, List, [], ◌∷◌, refl, ap, sym, subst, ◌∙◌, arith, length, map, drop, get_or, length-drop, Bool, true, false, inl, inr, Some}
+use Rattle.std.proofs.Common.{◌≡◌, ◌≢◌, ℕ, zero, suc, ◌+◌, ◌<◌, ◌^◌, List, [], ◌∷◌, refl, ap, sym, ◌∙◌, arith, length, map, get_or, length-drop, true, false, inl, inr, Some}
 use Rattle.std.specs.Prelude.{IfSome, slice_get, find}
 use Rattle.std.specs.List.{range_with_len}
 use Rattle.std.proofs.lemmas.Bool.{cases_Bool, ne_eqb, false≢true}
@@ -9,11 +9,10 @@ use Rattle.bstr.specs.Text.{MatchList, split_at}
 use Rattle.bstr.proofs.lemmas.MatchListLemmas.{matches-list}
 use Rattle.pl_build.specs.declared.line.Line.{Line}
 use Rattle.pl_build.specs.declared.line.Line.TheVariants.{Empty}
-use Rattle.pl_build.specs.declared.checks.Fault.{Fault}
 use Rattle.pl_build.specs.Words.{pieces, lines_of}
 use Rattle.pl_build.specs.Grammar.{line, line_of, bare}
 use Rattle.pl_build.specs.Build.{lines}
-use Rattle.pl_build.specs.Checks.{first_fault, faults, fault_at, kind_at, lowest_kind, is_wrong, is_misplaced, is_over, is_unknown, is_repeated, keyword, is_fault, data_size}
+use Rattle.pl_build.specs.Checks.{first_fault, faults, fault_at, lowest_kind, is_wrong, is_misplaced, is_over, is_unknown, is_repeated, keyword, is_fault, data_size}
 
 -- a piece with bytes begins behind as many separators as its index says
 piece_far : (text : List ℕ) (last : ℕ) (ks : List ℕ) (i : ℕ) → MatchList text 1 last ks → 0 < length (get_or (split_at text 1 last ks) i []) → last + i < length text

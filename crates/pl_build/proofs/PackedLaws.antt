@@ -1,5 +1,5 @@
 -- Packed words in the order of their offsets.
-use Rattle.std.proofs.Common.{◌≡◌, ℕ, suc, ◌+◌, ◌<◌, ◌≤◌, Bool, true, false, List, [], ◌∷◌, ◌++◌, length, drop, get_or, refl, sym, ap, ◌∙◌, append_assoc, arith, inl, inr}
+use Rattle.std.proofs.Common.{◌≡◌, ℕ, suc, ◌<◌, ◌≤◌, Bool, true, false, List, [], ◌∷◌, ◌++◌, length, drop, get_or, refl, sym, ap, ◌∙◌, append_assoc, arith, inl, inr}
 use Rattle.std.specs.Prelude.{◌&&◌, ◌==◌, filter, fold, nat_lt, not}
 use Rattle.std.specs.List.Sorted.{IsNonDecreasingBy, IsStableByKey, ties}
 use Rattle.std.specs.Ordering.{is_lt, nat_cmp}

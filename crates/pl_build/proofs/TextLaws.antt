@@ -1,12 +1,10 @@
 -- Where texts stand first, row by row.
 use Rattle.std.proofs.Common.{◌≡◌, ℕ, zero, suc, ◌+◌, ◌<◌, ◌≤◌, Bool, true, false, ◌||◌, cond, List, [], ◌∷◌, ◌++◌, length, take, get_or, Option, Some, None, refl, sym, ap, subst, ◌∙◌, arith, inl, inr}
 use Rattle.std.specs.Prelude.{is_some, nat_lt, position, find, slice_get}
-use Rattle.std.specs.BTreeMap.{BTreeMap, get_by, IsEmpty as IsEmptyMap}
-use Rattle.std.specs.Cmp.Lexicographic.{slice_cmp}
+use Rattle.std.specs.BTreeMap.{BTreeMap, IsEmpty as IsEmptyMap}
 use Rattle.std.specs.List.{list_any, position_from, position_or_len}
 use Rattle.std.specs.Map.{update}
 use Rattle.std.specs.Option.{option_and_then, option_or}
-use Rattle.std.specs.Ordering.{nat_cmp}
 use Rattle.std.specs.Str.{bytes_eq}
 use Rattle.std.proofs.lemmas.Bool.{cases_Bool, false≢true, lt-ltb, ltb-false, ltb-true}
 use Rattle.std.proofs.lemmas.Iterator.Adapters.{position_from-zero}

@@ -1,5 +1,5 @@
 // The tables, one after the other.
-ghost use Rattle.std.specs.Prelude.{◌≡◌, ◌+◌, ◌<◌, ◌≤◌, IfOk, OnOk};
+ghost use Rattle.std.specs.Prelude.{◌≡◌, ◌+◌, ◌≤◌, IfOk, OnOk};
 ghost use Rattle.pl_base.specs.Each.{run};
 ghost use Rattle.pl_build.specs.Build.{Builds};
 ghost use Rattle.pl_build.specs.Layout as spec;

@@ -17,7 +17,7 @@ use Rattle.pl_cone.specs.Plans.{cause_of}
 use Rattle.pl_cone.specs.Skips.{skip_is_memory}
 use Rattle.pl_cone.specs.Table.{IsLinkKind, faults_of, walked_by}
 use Rattle.pl_cone.specs.Taken.{is_library_entry}
-use Rattle.pl_cone.specs.declared.link.Link.{Link}
+use Rattle.pl_cone.specs.declared.linking.Link.{Link}
 use Rattle.pl_cone.specs.declared.linking.Linked.{Linked}
 use Rattle.pl_cone.specs.declared.linking.WalkedFiles as walked
 use Rattle.pl_cone.specs.declared.skip.Skip.{Skip}

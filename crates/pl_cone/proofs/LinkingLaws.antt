@@ -11,7 +11,7 @@ use Rattle.pl_cone.specs.Skipped.{skip_of}
 use Rattle.pl_cone.specs.Skips.{skip_is_memory}
 use Rattle.pl_cone.specs.Table.{IsLinkBy, refusal_of, walk_for, walked_by}
 use Rattle.pl_cone.specs.Taken.{AreTaken, files_in}
-use Rattle.pl_cone.specs.declared.link.Link.{Link}
+use Rattle.pl_cone.specs.declared.linking.Link.{Link}
 use Rattle.pl_cone.specs.declared.linking.Linked.{Linked}
 use Rattle.pl_cone.specs.declared.linking.WalkedFiles as walked
 use Rattle.pl_cone.specs.declared.skip.Skip.{Skip}

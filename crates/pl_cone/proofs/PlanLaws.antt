@@ -23,7 +23,7 @@ use Rattle.pl_cone.specs.Slots.{HaveWantedNames, count_before, is_there, object_
 use Rattle.pl_cone.specs.Table.{IsPlan, IsRunTable, is_candidate_row, names_where, planned_by, standings_by}
 use Rattle.pl_cone.specs.Taken as files
 use Rattle.pl_cone.specs.Taken.{files_in, is_library_entry, object_by, object_of}
-use Rattle.pl_cone.specs.declared.asked.Asked.{Asked}
+use Rattle.pl_cone.specs.declared.planning.Asked.{Asked}
 use Rattle.pl_cone.specs.declared.fault.PlanningFault.{PlanningFault}
 use Rattle.pl_cone.specs.declared.skip.ConeFault.{ConeFault}
 use Rattle.pl_cone.specs.declared.skip.ConeFault.TheVariants as cone

@@ -10,7 +10,7 @@ use Rattle.pl_cone.specs.Plans.{cause_of}
 use Rattle.pl_cone.specs.Skipped.{skip_of}
 use Rattle.pl_cone.specs.Table.{AreWalks, IsLinkBy, refusals_in}
 use Rattle.pl_cone.specs.Taken.{AreTaken, files_in}
-use Rattle.pl_cone.specs.declared.link.Link.{Link}
+use Rattle.pl_cone.specs.declared.linking.Link.{Link}
 use Rattle.pl_cone.specs.declared.linking.Linked.{Linked}
 use Rattle.pl_cone.specs.declared.linking.WalkedFiles as walked
 use Rattle.pl_cone.specs.declared.skip.Skip.{Skip}

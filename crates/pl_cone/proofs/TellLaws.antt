@@ -31,7 +31,7 @@ use Rattle.pl_cone.specs.Skipped.{skip_causes}
 use Rattle.pl_cone.specs.Skips.{of_walk}
 use Rattle.pl_cone.specs.Table.{faults_of, walk_for, walked_by}
 use Rattle.pl_cone.specs.Taken.{AreTaken, files_in}
-use Rattle.pl_cone.specs.declared.link.Link.{Link}
+use Rattle.pl_cone.specs.declared.linking.Link.{Link}
 use Rattle.pl_cone.specs.declared.linking.WalkedFiles as walked
 use Rattle.pl_cone.specs.declared.skip.Skip.TheVariants as skips
 use Rattle.pl_cone.specs.declared.taken.Taken.{Taken}

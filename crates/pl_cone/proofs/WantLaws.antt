@@ -37,7 +37,7 @@ use Rattle.pl_cone.specs.Slots.{HaveWantedNames, count_before, is_there, joined,
 use Rattle.pl_cone.specs.Table.{IsRunTable, is_candidate_row, names_by, rows_in, walk_of, walked_by}
 use Rattle.pl_cone.specs.Taken as files
 use Rattle.pl_cone.specs.Taken.{files_in, object_by}
-use Rattle.pl_cone.specs.declared.asked.Asked.{Asked}
+use Rattle.pl_cone.specs.declared.planning.Asked.{Asked}
 use Rattle.pl_cone.specs.declared.skip.Skip.{Skip}
 use Rattle.pl_cone.specs.declared.table.RunTable.{RunTable}
 use Rattle.pl_cone.specs.declared.taken.Taken.{Taken}

@@ -8,7 +8,7 @@ use Rattle.pl_cone.specs.Skipped.{skip_of}
 use Rattle.pl_cone.specs.Skips.{skip_is_memory}
 use Rattle.pl_cone.specs.Table.{AreWalks, IsLinkBy, faults_of, folder_objects, refusals_in, walk_for, walked_by}
 use Rattle.pl_cone.specs.Taken.{AreTaken, WereTaken, files_in, is_library_entry, object_of}
-use Rattle.pl_cone.specs.declared.link.Link.{Link}
+use Rattle.pl_cone.specs.declared.linking.Link.{Link}
 use Rattle.pl_cone.specs.declared.linking.Linked.{Linked}
 use Rattle.pl_cone.specs.declared.linking.WalkedFiles as walked
 use Rattle.pl_cone.specs.declared.skip.Skip.{Skip}

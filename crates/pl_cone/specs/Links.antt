@@ -8,7 +8,7 @@ use Rattle.pl_cone.specs.OneWord.{GivesOneWordBy}
 use Rattle.pl_cone.specs.Skips.{skip_is_memory}
 use Rattle.pl_conflict.specs.Between.{HoldsBetween}
 use Rattle.pl_conflict.specs.Own.{FindAll}
-use Rattle.pl_cone.specs.declared.link.Link.{Link}
+use Rattle.pl_cone.specs.declared.linking.Link.{Link}
 use Rattle.pl_cone.specs.declared.skip.Skip.{Skip}
 use Rattle.pl_cone.specs.declared.skip.Skip.TheVariants as skips
 use Rattle.pl_cone.specs.declared.values.WalkLinking.{WalkLinking}

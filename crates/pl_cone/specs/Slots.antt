@@ -6,7 +6,7 @@ use Rattle.pl_cone.specs.Faulted.{is_memory, of_plan}
 use Rattle.pl_cone.specs.Plans.{start_of, want_of}
 use Rattle.pl_cone.specs.Table.{is_candidate_row, rows_of, walk_of}
 use Rattle.pl_cone.specs.Taken.{object_by}
-use Rattle.pl_cone.specs.declared.asked.Asked.{Asked}
+use Rattle.pl_cone.specs.declared.planning.Asked.{Asked}
 use Rattle.pl_cone.specs.declared.fault.PlanningFault.{PlanningFault}
 use Rattle.pl_cone.specs.declared.slots.PlannedSlots.{PlannedSlots}
 use Rattle.pl_cone.specs.declared.slots.Wanting.{Wanting}

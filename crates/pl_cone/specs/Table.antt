@@ -22,9 +22,9 @@ use Rattle.pl_cone.specs.Plans as plans
 use Rattle.pl_cone.specs.Plans.{RunPlan, Standing, cause_of, is_stale, slot_of}
 use Rattle.pl_cone.specs.Skipped.{skip_causes, skip_of}
 use Rattle.pl_cone.specs.Taken.{AreTaken, files_in, is_library_entry, object_by}
-use Rattle.pl_cone.specs.declared.asked.Asked.{Asked}
-use Rattle.pl_cone.specs.declared.link.Link.{Link}
-use Rattle.pl_cone.specs.declared.plan.RowPlan.{RowPlan}
+use Rattle.pl_cone.specs.declared.planning.Asked.{Asked}
+use Rattle.pl_cone.specs.declared.linking.Link.{Link}
+use Rattle.pl_cone.specs.declared.planning.RowPlan.{RowPlan}
 use Rattle.pl_cone.specs.declared.scopes.WalkScope.{WalkScope}
 use Rattle.pl_cone.specs.declared.skip.Skip.{Skip}
 use Rattle.pl_cone.specs.declared.table.RunTable.{RunTable}

@@ -11,7 +11,7 @@ use Rattle.pl_value.specs.declared.word.Word.{Word}
 use Rattle.pl_cone.specs.Folder.{IsWithin}
 use Rattle.pl_cone.specs.Table.{AreRows, IsLinkBy, walk_for, walked_by}
 use Rattle.pl_cone.specs.Taken.{object_by}
-use Rattle.pl_cone.specs.declared.link.Link.{Link}
+use Rattle.pl_cone.specs.declared.linking.Link.{Link}
 use Rattle.pl_cone.specs.declared.table.RunTable.{RunTable}
 use Rattle.pl_cone.specs.declared.taken.Taken.{Taken}
 

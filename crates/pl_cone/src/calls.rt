@@ -9,8 +9,7 @@ ghost use Rattle.pl_cone.specs.Skipped.{skip_of};
 ghost use Rattle.pl_cone.specs.Table as columns;
 ghost use Rattle.pl_cone.specs.Taken.{AreTaken, WereTaken, files_in};
 
-use crate::currency::stale_rows;
-use crate::stamps::run_stamp;
+use crate::currency::{run_stamp, stale_rows};
 use crate::{ConeFault, RunTable, Skip, Taken};
 use pl_base::{Rows, Text};
 use pl_slots::Slot;

@@ -5,44 +5,33 @@
 //! Which relocations of a library give the same in every walk of the folder is found once: where at most one object of the folder defines the name to which a relocation refers, every walk that holds both objects finds the same symbol (System V gABI chapter 5, "Shared Object Dependencies"). So programs that share libraries look up the remaining ones alone.
 #![tactic(auto)]
 
-mod asked;
 mod calls;
 mod currency;
 mod fault;
-mod faults;
 mod laws;
-mod link;
 mod linking;
-mod members;
 mod needs;
 mod one_word;
-mod plan;
 mod planning;
-mod pushing;
 mod scopes;
 mod skip;
 mod slots;
-mod stamps;
 mod table;
 mod taken;
 mod taking;
 mod values;
 mod walking;
 
-pub use asked::Asked;
 pub use calls::{Cone, cone_of, prelinkable, row_of};
+pub use currency::LAST_STAMP;
 pub use fault::PlanningFault;
 pub use laws::{flags_give_one_word, rule_is_one};
-pub use link::Link;
-pub use linking::library_link;
-pub use members::{modules_of, sought};
-pub use plan::RowPlan;
-pub use planning::plan_of;
+pub use linking::{Link, library_link};
+pub use planning::{Asked, RowPlan, plan_of};
 pub use scopes::WalkScope;
 pub use skip::{ConeFault, Skip};
-pub use stamps::LAST_STAMP;
 pub use table::{RunTable, index_of};
 pub use taken::Taken;
 pub use taking::take_file;
-pub use values::WalkLinking;
+pub use values::{WalkLinking, modules_of, sought};
 pub use walking::{FolderWalks, walks_of};

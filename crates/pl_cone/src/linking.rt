@@ -1,5 +1,5 @@
 // Which names may be prelinked, and what their relocations find.
-ghost use Rattle.std.specs.Prelude.{◌≡◌, ◌<◌, ◌+◌, IfOk, OnOk, length, true, false};
+ghost use Rattle.std.specs.Prelude.{◌≡◌, ◌<◌, ◌+◌, IfOk, OnOk, length, true, false, []};
 ghost use Rattle.pl_base.specs.Answers.{Answers, because};
 ghost use Rattle.pl_cone.specs.Candidates as candidates;
 ghost use Rattle.pl_cone.specs.Linking as spec;
@@ -12,17 +12,38 @@ ghost use Rattle.pl_scope.specs.Scope.{objects, IsSymbol};
 ghost use Rattle.pl_value.specs.Definers.{IsSought};
 ghost use Rattle.pl_value.specs.Values.{reference};
 
-use crate::members::{modules_of, sought};
 use crate::one_word::gives_one_word;
-use crate::pushing::push_some;
-use crate::values::{WalkLinking, first_found, others_have_values};
-use crate::{Link, Skip, Taken, WalkScope};
+use crate::values::{WalkLinking, first_found, modules_of, others_have_values, sought};
+use crate::{Skip, Taken, WalkScope};
 use pl_base::{Rows, Text};
 use pl_io::NoMemory;
 use pl_object::Reloc;
 use pl_scope::{Found, Index, Scope};
 use pl_value::{LinkFault, OrdinaryFault, named_fault, reference_of};
 use std::alloc::{AllocError, Global};
+
+/// What the own relocations of a file's object find by the walk of its name.
+#[derive(Drop)]
+pub struct Link {
+    /// For each of them, in their order, the symbol that it finds among the members of the walk, if it finds one.
+    pub found: Rows<Option<Found>>,
+
+    /// Of a library the indexes, ascending, of those that are not known to give the same in every walk which holds the library. A program has none.
+    pub remaining: Rows<u32>,
+}
+
+impl Link {
+    /// Of no relocations.
+    pub fn none(alloc: Global) -> Link
+        ensures found { result.found ≡ [] }
+        ensures remaining { result.remaining ≡ [] }
+    {
+        Link {
+            found: Rows::new(alloc),
+            remaining: Rows::new(alloc),
+        }
+    }
+}
 
 /// The files of a folder with their walks, and the index of what they define.
 #[derive(Clone, Copy)]
@@ -114,10 +135,7 @@ pub fn library_link(alloc: Global, own: &WalkScope<'_>, index: &Index) -> Result
     for number in 0..relocs.len() {
         let reloc = &relocs[number];
         let found = sought(&own.scope, reference_of(0, reloc), &among);
-        push_some(
-            &mut remaining,
-            remaining_number(index, &own.scope, reloc, found, number as u32),
-        )?;
+        remaining.push_some(remaining_number(index, &own.scope, reloc, found, number as u32))?;
         all.push(found)?;
     }
     Ok(Link {

@@ -6,11 +6,51 @@ ghost use Rattle.pl_cone.specs.Plans.{planned};
 ghost use Rattle.pl_cone.specs.Table as columns;
 ghost use Rattle.pl_cone.specs.Taken.{files_in, names_of};
 
-use crate::currency::stale_rows;
+use crate::currency::{run_stamp, stale_rows, stamps_of};
 use crate::slots::{PlannedSlots, slots_of};
-use crate::stamps::{run_stamp, stamps_of};
-use crate::{Asked, PlanningFault, RowPlan, RunTable};
+use crate::{PlanningFault, RunTable};
+use pl_base::Rows;
+use pl_elf::Range;
+use pl_slots::Slot;
 use std::alloc::Global;
+
+/// What a run is asked, besides the files.
+#[derive(Drop)]
+pub struct Asked<'a> {
+    /// The rows of the cache.
+    pub rows: &'a [Slot],
+
+    /// The stamp of the last run that gave one, by the cache.
+    pub last: u32,
+
+    /// The addresses from which slots are given.
+    pub region: Range,
+
+    /// Whether libraries may share addresses that the walk of no name holds together.
+    pub share: bool,
+
+    /// When the run is, in seconds since 1970.
+    pub moment: u32,
+}
+
+/// What a run plans for the files of a table. The columns have one row for each file.
+#[derive(Drop)]
+pub struct RowPlan {
+    /// The slots of the libraries that may be prelinked, in the order of the files.
+    pub slots: Rows<Slot>,
+
+    /// Where each file's slot starts, 0 where it has none.
+    pub places: Rows<u64>,
+
+    /// Whether each may be prelinked and is not current.
+    pub stale: Rows<bool>,
+
+    /// The stamp of each library after the run; 0 for every other file.
+    pub stamps: Rows<u32>,
+
+    /// The stamp that stale libraries get; the last one so far where no file is stale.
+    pub stamp: u32,
+}
 
 /// What a run plans for the files of a table:
 ///

@@ -9,7 +9,6 @@ ghost use Rattle.pl_share.specs.Shared.{plan_shared};
 ghost use Rattle.pl_slots.specs.Plan.{plan};
 ghost use Rattle.pl_cone.specs.Table as columns;
 
-use crate::pushing::push_some;
 use crate::{Asked, PlanningFault, RunTable};
 use pl_base::{Rows, Text};
 use pl_io::NoMemory;
@@ -94,7 +93,7 @@ fn positions_in(
 {
     let mut all = Rows::new(alloc);
     for row in walk {
-        push_some(&mut all, positions[*row as usize])?;
+        all.push_some(positions[*row as usize])?;
     }
     Ok(all)
 }

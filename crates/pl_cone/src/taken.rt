@@ -1,6 +1,7 @@
 ghost use Rattle.std.specs.Prelude.{◌≡◌, Some};
 ghost use Rattle.std.specs.Option.{option_map};
 ghost use Rattle.pl_form.specs.Files.{marked_in, original_in};
+ghost use Rattle.pl_cone.specs.Currency.{old_stamp};
 ghost use Rattle.pl_cone.specs.Taken as spec;
 
 use pl_base::{Rows, Text};
@@ -64,6 +65,16 @@ impl Taken {
         match self.marked() {
             None => self.bytes.as_slice(),
             Some(marked) => marked.original.as_slice(),
+        }
+    }
+
+    /// The stamp that it bears, 0 where it is not prelinked.
+    pub fn stamp(&self) -> u32
+        ensures { result ≡ old_stamp self.now }
+    {
+        match self.marked() {
+            None => 0,
+            Some(marked) => marked.stamp,
         }
     }
 

@@ -1,13 +1,13 @@
 // What a file is that was taken.
 ghost use Rattle.std.specs.Prelude.{◌≡◌, ◌≤◌, length, IfOk};
 ghost use Rattle.pl_base.specs.Bytes.{IsBytes};
+ghost use Rattle.pl_cone.specs.Faults as faults;
 ghost use Rattle.pl_cone.specs.Taken as spec;
 
 use crate::Taken;
-use crate::faults::fault_of_entry;
 use pl_base::{Rows, Text};
 use pl_elf::Range;
-use pl_form::{Entry, File, FileFault, Marked, STORED, read_file};
+use pl_form::{Entry, File, FileFault, FormFault, Marked, STORED, check_form, read_file};
 use pl_io::NoMemory;
 use pl_object::{Object, Refusal};
 use std::alloc::Global;
@@ -58,6 +58,41 @@ fn entry_of(alloc: Global, bytes: &[u8]) -> Result<Entry, NoMemory>
             Ok(Entry::Refused { number, argument })
         }
         Err(FileFault::Refused(Refusal::NoMemory)) => Err(NoMemory),
+    }
+}
+
+fn number_of(fault: FormFault) -> u32
+    ensures { result ≡ faults.number_of fault }
+{
+    match fault {
+        FormFault::NoSpareTags => 1,
+        FormFault::BssTooLarge => 2,
+        FormFault::StrayHeader => 3,
+        FormFault::InRegion => 4,
+        FormFault::LastLoadNotLast => 5,
+        FormFault::TooLarge => 6,
+        FormFault::NoMemory => 0,
+    }
+}
+
+fn fault_of(object: &Object, region: Range) -> Option<u32>
+    ensures { result ≡ faults.fault_of region object.now }
+{
+    match check_form(object, region) {
+        Ok(()) => None,
+        Err(fault) => Some(number_of(fault)),
+    }
+}
+
+/// The number of the first form fault of a file's original under a region of slots.
+fn fault_of_entry(entry: &Entry, region: Range) -> Option<u32>
+    ensures { result ≡ spec.fault_of_entry region entry.now }
+{
+    match entry {
+        Entry::There(File::Plain(object)) => fault_of(object, region),
+        Entry::There(File::Marked(marked)) => fault_of(&marked.object, region),
+        Entry::BadMark => None,
+        Entry::Refused { .. } => None,
     }
 }
 

@@ -6,7 +6,7 @@ ghost use Rattle.pl_base.specs.Each.{run};
 ghost use Rattle.pl_cone.specs.Skips.{skip_is_memory};
 ghost use Rattle.pl_cone.specs.Table as table;
 ghost use Rattle.pl_cone.specs.Needs as spec;
-ghost use Rattle.pl_cone.specs.Taken.{WereTaken, object_by};
+ghost use Rattle.pl_cone.specs.Taken.{WereTaken};
 
 use crate::needs::{Needs, needs_of};
 use crate::{Skip, Taken};
@@ -128,23 +128,16 @@ fn object_of<'f>(alloc: Global, needs: &Needs<'f>, number: u32) -> Result<&'f Ob
     }
 }
 
-/// Whether a file is a program.
-fn is_program(taken: &Taken) -> bool
-    ensures { result ≡ spec.is_program_object (object_by taken.now.entry) }
-{
-    match taken.object() {
-        None => false,
-        Some(object) => object.kind.is_program(),
-    }
-}
-
 /// Whether the file of a number is a program.
 fn is_program_row(needs: &Needs<'_>, row: u32) -> bool
     ensures { result ≡ spec.is_program_row needs.now (Some row) }
 {
     match needs.files.get(row as usize) {
         None => false,
-        Some(taken) => is_program(taken),
+        Some(taken) => match taken.object() {
+            None => false,
+            Some(object) => object.kind.is_program(),
+        },
     }
 }
 
@@ -205,15 +198,6 @@ fn enter(
     append(alloc, needs, walking, needs.of_row(number))
 }
 
-/// A copy of numbers with no room behind it.
-fn rows_of(alloc: Global, numbers: &[u32]) -> Result<Rows<u32>, AllocError>
-    ensures { IfOk result (λ rows. rows ≡ numbers.now) }
-{
-    let mut rows = Vec::new(alloc);
-    rows.extend_from_slice(numbers)?;
-    Ok(Rows::from_vec(rows))
-}
-
 /// The rows of the members of a row's walk, or the first refusal.
 fn walk_of(
     alloc: Global,
@@ -233,7 +217,8 @@ fn walk_of(
     for index in 0..MAX_MEMBERS {
         enter(alloc, needs, walking, index)?;
     }
-    Ok(rows_of(alloc, &walking.numbers)?)
+    let rows = Vec::from_slice(alloc, &walking.numbers)?;
+    Ok(Rows::from_vec(rows))
 }
 
 /// Adds a walk, or why it is refused.

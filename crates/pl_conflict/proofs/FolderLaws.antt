@@ -46,7 +46,7 @@ use Rattle.pl_value.specs.declared.meaning.Meaning.{Meaning}
 use Rattle.pl_conflict.specs.Complete.{StandFor, bytes_of, file_at, files_in, originals_in, slots_in, marked_conflicts, IsProgramWalk, FilesStand, FastImagesAreOrdinary}
 use Rattle.pl_conflict.specs.Format.{Causes, format, slot_at, others_in, libraries, is_fast, RuleAt}
 use Rattle.pl_conflict.specs.Prelinked as prelinked
-use Rattle.pl_conflict.specs.Prelinked.{Firm, firm_of, objects_of, slots_of, originals_of, walked_of, has_numbers, library_file, named, names_in, own_walk}
+use Rattle.pl_conflict.specs.Prelinked.{Firm, firm_of, objects_of, slots_of, originals_of, walked_of, library_file, named, names_in, own_walk}
 use Rattle.pl_conflict.specs.Standing.{standing_image}
 use Rattle.pl_conflict.proofs.FormatLaws.{read_is, format_kept}
 use Rattle.pl_conflict.proofs.MadeLaws.{program_made, program_is_form, prelinked_is, library_of, program_from}

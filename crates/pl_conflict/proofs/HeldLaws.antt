@@ -5,7 +5,7 @@ use Rattle.std.specs.Option.{option_to_list}
 use Rattle.std.proofs.lemmas.List.{append-nil, take_more, drop_more}
 use Rattle.std.proofs.lemmas.List.Elements.{filter_map-append}
 use Rattle.std.proofs.lemmas.Option.{slice_get-get_or}
-use Rattle.pl_base.specs.Memory.{Piece, layered, filled, read}
+use Rattle.pl_base.specs.Memory.{Piece, layered, read}
 use Rattle.pl_image.specs.Image.{all_pieces, AreLoaded}
 use Rattle.pl_image.specs.declared.loaded_object.LoadedObject.{LoadedObject}
 use Rattle.pl_image.proofs.PlacedLaws.{alone}
@@ -26,8 +26,8 @@ one m = omega arith
 pub one_loaded : (files : List LoadedObject) (m : ℕ) → AreLoaded files → m < length files → AreLoaded (take (m + 1 - m) (drop m files))
 one_loaded files m are lt = subst AreLoaded (sym (one_of files m (m + 1 - m) (one m) lt)) (alone (get_or files m none) (are.ascend m none lt) (are.fit m none lt))
 
-pub held_is : (files : List LoadedObject) (m start : ℕ) → m < length files → read (filled (layered (all_pieces (take (m + 1 - m) (drop m files)))) []) start 8 ≡ held files m start
-unfolding held filled
+pub held_is : (files : List LoadedObject) (m start : ℕ) → m < length files → read (layered (all_pieces (take (m + 1 - m) (drop m files)))) start 8 ≡ held files m start
+unfolding held
 held_is files m start lt =
     ap (λ (ls : List LoadedObject). read (layered (all_pieces ls)) start 8) (one_of files m (m + 1 - m) (one m) lt)
     ∙ ap (λ (ps : List Piece). read (layered ps) start 8) (append-nil (get_or files m none).pieces)

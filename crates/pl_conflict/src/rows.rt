@@ -15,12 +15,12 @@ ghost use Rattle.pl_conflict.specs.Compared as compared;
 ghost use Rattle.pl_conflict.specs.Conflicts as spec;
 
 use pl_base::Rows;
-use pl_image::{LoadedObject, Parts};
+use pl_image::{LoadedObject, Parts, read_loaded};
 use pl_io::NoMemory;
 use pl_lists::ConflictRow;
 use pl_scope::Scope;
 use pl_tls::Module;
-use pl_value::{Meaning, OrdinaryFault, Places, Word, load, meanings, read};
+use pl_value::{Meaning, OrdinaryFault, Places, Word, load, meanings};
 use std::alloc::{AllocError, Global};
 
 /// The eight bytes that a member's file loads from an address on.
@@ -36,7 +36,7 @@ pub fn held(
     ensures { IfOk result (λ v. v.items ≡ spec.held files.now member start) }
 {
     let index = member as usize;
-    read(alloc, &files[index..index + 1], &[], start, 8)
+    read_loaded(alloc, &files[index..index + 1], start, 8)
 }
 
 /// Whether bytes are those of a word, little-endian.

@@ -16,7 +16,7 @@ use Rattle.pl_form.specs.declared.section_names.TheConstants.{LIBSTR_NAME, LIBLI
 use Rattle.pl_form.specs.declared.parts.Extension.{Extension}
 use Rattle.pl_form.specs.declared.parts.FormPlan.{FormPlan}
 use Rattle.pl_form.specs.Extending as extending
-use Rattle.pl_form.specs.Extending.{IsShort, AreShort, IsExtended, split_segments, all_sections, new_sections, program_table}
+use Rattle.pl_form.specs.Extending.{AreShort, IsExtended, split_segments, all_sections, new_sections, program_table}
 use Rattle.pl_form.specs.Faults.{cut_of}
 use Rattle.pl_form.specs.Originals.{original}
 use Rattle.pl_form.specs.Tables.{plan_of, tables_of}

@@ -1,5 +1,5 @@
 // The original that a file's undo section brings back.
-ghost use Rattle.std.specs.Prelude.{◌≡◌, ◌+◌, ◌-◌, ◌*◌, ◌^◌, ◌<◌, ◌≤◌, ◌==◌, ◌++◌, ◌∷◌, [], length, nat_le, IfOk, Some};
+ghost use Rattle.std.specs.Prelude.{◌≡◌, ◌+◌, ◌-◌, ◌*◌, ◌^◌, ◌<◌, ◌==◌, ◌++◌, ◌∷◌, [], length, nat_le, IfOk, Some};
 ghost use Rattle.pl_base.specs.Windows as windows;
 ghost use Rattle.pl_elf.specs.Headers as headers;
 ghost use Rattle.pl_move.specs.Moves.{all_back, table_window, table_windows};

@@ -1,5 +1,5 @@
 // What is in the way of a form.
-ghost use Rattle.std.specs.Prelude.{◌≡◌, ◌+◌, ◌*◌, ◌<◌, ◌^◌};
+ghost use Rattle.std.specs.Prelude.{◌≡◌, ◌*◌, ◌<◌};
 ghost use Rattle.std.specs.List.{list_any};
 ghost use Rattle.pl_form.specs.Faults as spec;
 

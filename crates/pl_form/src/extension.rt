@@ -1,5 +1,5 @@
 // What a program's form has behind the file bytes of its last PT_LOAD.
-ghost use Rattle.std.specs.Prelude.{◌≡◌, ◌+◌, ◌-◌, ◌≤◌, ◌^◌, drop, length, take, IfOk};
+ghost use Rattle.std.specs.Prelude.{◌≡◌, ◌+◌, ◌-◌, ◌≤◌, drop, length, take, IfOk};
 ghost use Rattle.pl_base.specs.Bytes.{put};
 ghost use Rattle.pl_base.specs.Windows.{AllIn, put_all};
 ghost use Rattle.pl_form.specs.Loads.{hidden_windows};

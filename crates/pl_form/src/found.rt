@@ -1,5 +1,5 @@
 // What is found by segments, sections, tags and rows: where a form changes an original, and where Back restores it.
-ghost use Rattle.std.specs.Prelude.{◌≡◌, ◌+◌, ◌*◌, ◌^◌, ◌<◌, ◌++◌, ◌∷◌, [], ◌≤◌, slice_index, drop, length, map, take, IfOk, OnOk};
+ghost use Rattle.std.specs.Prelude.{◌≡◌, ◌+◌, ◌*◌, ◌^◌, ◌<◌, ◌++◌, ◌∷◌, [], ◌≤◌, slice_index, length, map, IfOk, OnOk};
 ghost use Rattle.pl_base.specs.Bytes as bytes;
 ghost use Rattle.pl_object.specs.PlaceClauses as clauses;
 ghost use Rattle.pl_object.specs.Relocations as relocations;

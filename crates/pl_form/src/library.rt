@@ -1,5 +1,5 @@
 // The plan of a library's form.
-ghost use Rattle.std.specs.Prelude.{◌≡◌, ◌+◌, ◌*◌, ◌<◌, ◌≤◌, ◌^◌, ◌++◌, ◌∷◌, [], length, map, IfOk, OnOk};
+ghost use Rattle.std.specs.Prelude.{◌≡◌, ◌+◌, ◌*◌, ◌<◌, ◌≤◌, ◌^◌, ◌++◌, ◌∷◌, [], length, map, IfOk};
 ghost use Rattle.pl_base.specs.Bytes.{put};
 ghost use Rattle.pl_move.specs.Moves.{row_moved, rows};
 ghost use Rattle.pl_move.specs.declared.kind.RowKind.TheVariants.{TagValue};

@@ -1,12 +1,9 @@
 // A library's form, by its list and the words at its places.
-ghost use Rattle.std.specs.Prelude.{◌≡◌, ◌+◌, ◌*◌, ◌++◌, ◌<◌, ◌≤◌, ◌^◌, ◌%◌, ◌-◌, length, take, false, true, IfOk, OnOk, Ok};
+ghost use Rattle.std.specs.Prelude.{◌≡◌, ◌+◌, ◌++◌, ◌<◌, ◌≤◌, ◌^◌, ◌%◌, ◌-◌, length, take, IfOk, OnOk, Ok};
 ghost use Rattle.pl_base.specs.Bytes.{bytes64, part};
-ghost use Rattle.pl_base.specs.Windows.{AllIn, IsIn};
-ghost use Rattle.pl_elf.specs.Headers as headers;
-ghost use Rattle.pl_elf.specs.Kinds.{is_library};
+ghost use Rattle.pl_base.specs.Windows.{AllIn};
 ghost use Rattle.pl_lists.specs.Lists as lists;
 ghost use Rattle.pl_object.specs.Accepted.{HasHead};
-ghost use Rattle.pl_object.specs.Reads.{reads};
 ghost use Rattle.pl_form.specs.Back as back;
 ghost use Rattle.pl_form.specs.Forms as forms;
 ghost use Rattle.pl_form.specs.Forms.{original_of};

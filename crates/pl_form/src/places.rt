@@ -1,5 +1,5 @@
 // The bytes at places.
-ghost use Rattle.std.specs.Prelude.{◌≡◌, ◌+◌, ◌++◌, ◌≤◌, drop, length, replicate, take, IfOk, OnOk};
+ghost use Rattle.std.specs.Prelude.{◌≡◌, ◌+◌, ◌++◌, ◌≤◌, drop, length, replicate, take, OnOk};
 ghost use Rattle.pl_base.specs.Bytes.{part, put};
 ghost use Rattle.pl_base.specs.Windows.{AllIn, put_all};
 ghost use Rattle.pl_form.specs.Back as back;

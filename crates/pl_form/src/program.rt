@@ -1,17 +1,11 @@
 // The plan of a program's form.
-ghost use Rattle.std.specs.Prelude.{◌≡◌, ◌+◌, ◌*◌, ◌<◌, ◌≤◌, ◌^◌, ◌++◌, ◌∷◌, [], false, length, map, IfOk};
-ghost use Rattle.std.specs.List.{list_any};
-ghost use Rattle.pl_elf.specs.Clauses.{section_passes};
-ghost use Rattle.pl_elf.specs.Headers as headers;
+ghost use Rattle.std.specs.Prelude.{◌≡◌, ◌+◌, ◌*◌, ◌<◌, ◌≤◌, ◌^◌, ◌++◌, length, map, IfOk};
 ghost use Rattle.pl_move.specs.Moves.{rows};
 ghost use Rattle.pl_object.specs.Accepted.{HasHead};
 ghost use Rattle.pl_form.specs.Back as back;
-ghost use Rattle.pl_form.specs.Loads.{hidden_windows};
 ghost use Rattle.pl_form.specs.Parts as parts;
-ghost use Rattle.pl_base.specs.Bytes.{put};
-ghost use Rattle.pl_base.specs.Windows.{AllIn, IsIn};
 ghost use Rattle.pl_form.specs.Extending as spec;
-ghost use Rattle.pl_form.specs.Extending.{IsShort, AreShort, LieInZeros, HasNames, IsExtended};
+ghost use Rattle.pl_form.specs.Extending.{IsShort, AreShort, LieInZeros, IsExtended};
 ghost use Rattle.pl_form.specs.Originals.{original};
 ghost use Rattle.pl_form.specs.Tables as tables;
 

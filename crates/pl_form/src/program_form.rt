@@ -1,6 +1,6 @@
 // A program's form, by its list, the bytes at its places and its conflicts.
-ghost use Rattle.std.specs.Prelude.{◌≡◌, ◌+◌, ◌≤◌, ◌<◌, ◌^◌, ◌++◌, length, nat_lt, IfOk, OnOk};
-ghost use Rattle.pl_base.specs.Answers.{Answers, AnswersAs};
+ghost use Rattle.std.specs.Prelude.{◌≡◌, ◌+◌, ◌≤◌, ◌++◌, length, nat_lt, IfOk, OnOk};
+ghost use Rattle.pl_base.specs.Answers.{AnswersAs};
 ghost use Rattle.pl_lists.specs.Lists.{list_strings};
 ghost use Rattle.pl_form.specs.Back.{wanted};
 ghost use Rattle.pl_form.specs.Found.{ps_of};

@@ -1,5 +1,5 @@
 // Lines of words in a buffer of fixed size.
-ghost use Rattle.std.specs.Prelude.{◌≡◌, ◌++◌, ◌+◌, ◌≤◌, ◌<◌};
+ghost use Rattle.std.specs.Prelude.{◌≡◌, ◌++◌, ◌+◌, ◌≤◌};
 ghost use Rattle.pl_base.specs.Digits.{hex16};
 ghost use Rattle.arrayvec.specs.ArrayVec.{array_vec_len};
 ghost use Rattle.pl_image.specs.Lines as spec;

@@ -1,19 +1,17 @@
 -- Libraries at their own slots and by the policy: all of them miss what is taken, and one another.
 use Rattle.std.proofs.Common.{◌≡◌, ℕ, ◌+◌, ◌<◌, ◌≤◌, true, false, not, ◌&&◌, List, [], ◌∷◌, ◌++◌, length, map, Option, Some, None, refl, sym, ap, subst, ◌∙◌, append_assoc, arith, inl, inr}
-use Rattle.std.specs.Prelude.{nat_le, nat_lt, ◌||◌}
+use Rattle.std.specs.Prelude.{nat_le, nat_lt}
 use Rattle.std.specs.List.{All, list_all}
-use Rattle.std.proofs.lemmas.Bool.{cases_Bool, and_parts, and_from, or_parts, or_from, or_cases, not-true, not_from_false, le-leb, lt-ltb, leb-true, ltb-true, false_from_ne_true, false≢true}
+use Rattle.std.proofs.lemmas.Bool.{cases_Bool, and_parts, and_from, or_parts, or_from, not-true, not_from_false, le-leb, lt-ltb, leb-true, ltb-true, false_from_ne_true, false≢true}
 use Rattle.std.proofs.lemmas.List.Elements.{All-nil, All-head, All-tail, All-cons}
 use Rattle.std.proofs.lemmas.List.Folds.{list_any-append}
 use Rattle.pl_elf.specs.declared.constants.TheConstants.{ADDRESS_LIMIT}
 use Rattle.pl_elf.specs.declared.range.Range.{Range}
 use Rattle.pl_elf.specs.Ranges.{has}
-use Rattle.pl_elf.specs.Kinds.{is_library}
-use Rattle.pl_form.specs.Marks.{IsLibraryMark, IsProgramMark}
 use Rattle.pl_place.specs.Placing.{want_range, AllFree, WantsAreApart, MissesAll, IsWant}
 use Rattle.pl_slots.specs.Holes.{is_free}
 use Rattle.pl_slots.specs.declared.slot.Want.{Want}
-use Rattle.pl_loader.specs.Loading.{IsRead, IsLibrary, IsForm, IsFormIfMarked, made_of}
+use Rattle.pl_loader.specs.Loading.{IsRead, IsLibrary, IsForm, IsFormIfMarked}
 use Rattle.pl_loader.specs.Places.{region, everywhere, want_of, range_at, misses, where_free, slot_by, slot_place, range_at_slot, slot_places, ranges_at_slots, wants_left, joined, IsFree}
 use Rattle.pl_loader.specs.declared.object_file.Mark.{Mark}
 use Rattle.pl_loader.specs.declared.object_file.ObjectFile.{ObjectFile}

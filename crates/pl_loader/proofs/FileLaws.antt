@@ -1,5 +1,5 @@
 -- What is known of the files that were given to a load.
-use Rattle.std.proofs.Common.{◌≡◌, ℕ, ◌+◌, ◌≤◌, ◌-◌, List, [], ◌∷◌, ◌++◌, Option, not, length, map, take, drop, refl, sym, ap, ◌∙◌, subst, arith, get_or}
+use Rattle.std.proofs.Common.{◌≡◌, ℕ, ◌+◌, ◌≤◌, ◌-◌, List, [], ◌∷◌, Option, length, map, take, drop, refl, sym, ap, ◌∙◌, subst, arith, get_or}
 use Rattle.std.specs.List.{All, AllZip}
 use Rattle.std.proofs.lemmas.List.{length-map, take_all}
 use Rattle.std.proofs.lemmas.List.Elements.{All-nil, All-cons, All-head, All-tail, All-map, All-weaker}
@@ -7,7 +7,6 @@ use Rattle.pl_elf.specs.Headers.{loads}
 use Rattle.pl_elf.specs.declared.constants.TheConstants.{ADDRESS_LIMIT}
 use Rattle.pl_object.specs.declared.object.Object.{Object}
 use Rattle.pl_elf.specs.declared.range.Range.{Range}
-use Rattle.pl_slots.specs.declared.slot.Want.{Want}
 use Rattle.pl_place.specs.Placing.{IsWant}
 use Rattle.pl_scope.specs.Scope.{walked, objects, IsAccepted}
 use Rattle.pl_scope.specs.declared.constants.TheConstants.{MAX_MEMBERS}

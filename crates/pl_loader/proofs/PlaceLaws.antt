@@ -2,7 +2,7 @@
 use Rattle.std.proofs.Common.{◌≡◌, ℕ, List, [], ◌∷◌, Option, Ok, Err, refl, sym, ap, arith, length, inl, inr}
 use Rattle.pl_elf.specs.declared.range.Range.{Range}
 use Rattle.pl_place.specs.Left.{left}
-use Rattle.pl_place.specs.Placing.{InTurn, ArePlacedInTurn, IsFault, StopsAt, want_range}
+use Rattle.pl_place.specs.Placing.{InTurn, ArePlacedInTurn, IsFault, want_range}
 use Rattle.pl_place.specs.Policy.{Answering, Choice, Follows}
 use Rattle.pl_slots.specs.Holes.{without}
 use Rattle.pl_slots.specs.declared.slot.Want.{Want}
@@ -12,7 +12,6 @@ use Rattle.pl_place.proofs.PlacedLaws.{all_fit, fit_free, all_apart, all_chosen,
 use Rattle.pl_loader.specs.Faults.{of_place}
 use Rattle.pl_loader.specs.Places.{region, holes_beside, wants_beside, places, IsPlaced, IsUnplaced, StopsOf, StopsFiles, IsFree}
 use Rattle.pl_loader.specs.declared.object_file.ObjectFile.{ObjectFile}
-use Rattle.pl_loader.specs.declared.fault.LoadFault.{LoadFault}
 use Rattle.pl_loader.specs.declared.fault.LoadFault.TheVariants as load
 
 -- ---- by the policy

@@ -1,11 +1,11 @@
 -- What acceptance says of the addresses that an object takes.
-use Rattle.std.proofs.Common.{◌≡◌, ℕ, ◌+◌, ◌<◌, ◌≤◌, true, false, List, [], ◌∷◌, Ok, refl, sym, arith, inl, inr}
+use Rattle.std.proofs.Common.{◌≡◌, ℕ, ◌<◌, true, false, List, [], ◌∷◌, Ok, refl, sym, arith, inl, inr}
 use Rattle.std.specs.Prelude.{fold, max, ◌==◌, ◌⊎◌}
 use Rattle.std.specs.List.{All, list_any}
 use Rattle.std.specs.Int.{is_power_of_two}
 use Rattle.std.proofs.lemmas.Bool.{cases_Bool, cases_lt, or_parts, eqb-true, false≢true}
 use Rattle.std.proofs.lemmas.List.Elements.{All-weaker}
-use Rattle.pl_elf.specs.Headers.{is_load, loads}
+use Rattle.pl_elf.specs.Headers.{loads}
 use Rattle.pl_elf.specs.Clauses.{AreLoads, bad_load, bad_align}
 use Rattle.pl_elf.specs.declared.constants.TheConstants.{ADDRESS_LIMIT, PAGE}
 use Rattle.pl_elf.specs.declared.segment.Segment.{Segment}

@@ -1,6 +1,6 @@
 -- Prelinked files that are loaded where they stand have the addresses of their originals.
-use Rattle.std.proofs.Common.{◌≡◌, ℕ, zero, suc, ◌+◌, ◌<◌, ◌≤◌, Bool, true, false, ◌&&◌, List, [], ◌∷◌, ◌++◌, length, map, min, get_or, take, drop, Option, Some, None, refl, sym, ap, subst, ◌∙◌, zero-add, append_assoc, append-nil, arith, inl, inr}
-use Rattle.std.specs.Prelude.{nat_le, IsSome, if◌then◌else◌}
+use Rattle.std.proofs.Common.{◌≡◌, ℕ, suc, ◌+◌, ◌<◌, ◌≤◌, Bool, true, false, List, [], ◌∷◌, ◌++◌, length, map, min, get_or, take, drop, Option, Some, None, refl, sym, ap, subst, ◌∙◌, zero-add, append_assoc, append-nil, arith, inl, inr}
+use Rattle.std.specs.Prelude.{IsSome, if◌then◌else◌}
 use Rattle.std.specs.List.{All, AllZip, zip, list_all}
 use Rattle.std.proofs.lemmas.Bool.{cases_Bool, cases_lt, and_parts, false≢true}
 use Rattle.std.proofs.lemmas.List.{map-append, map_push, take_more, take_all, drop_more, drop_all, length-map, get_or-map, get_or_default}
@@ -13,11 +13,10 @@ use Rattle.pl_elf.specs.Headers.{HasSegments, header, is_load, loads, segments}
 use Rattle.pl_elf.specs.declared.segment.Segment.{Segment}
 use Rattle.pl_elf.specs.declared.range.Range.{Range}
 use Rattle.pl_form.specs.Files.{IsBorne}
-use Rattle.pl_image.specs.Image.{all_pieces, extent_of, extents_of, ascends, AreLoaded}
+use Rattle.pl_image.specs.Image.{all_pieces, extent_of, extents_of, ascends}
 use Rattle.pl_image.specs.Loads.{loaded_piece, loaded_pieces, mask_at, IsPlaced}
 use Rattle.pl_image.specs.declared.mask.Mask.{Mask}
 use Rattle.pl_image.specs.declared.loaded_object.LoadedObject.{LoadedObject}
-use Rattle.pl_object.specs.declared.object.Object.{Object}
 use Rattle.pl_form.specs.Loads.{pieces_of, stands}
 use Rattle.pl_value.specs.Ordinary.{part_of, loaded_objects, ArePlaced}
 use Rattle.pl_value.specs.Targets.{base_of}

@@ -1,5 +1,5 @@
 -- Where the objects of a load are placed. Which addresses a loader chooses, the System V gABI leaves open: this project's profile.
-use Rattle.std.specs.Prelude.{◌≡◌, ℕ, ◌+◌, ◌^◌, ◌<◌, ◌≤◌, ◌⊎◌, Bool, true, ◌||◌, nat_le, if◌then◌else◌, List, [], ◌∷◌, ◌++◌, map, length, Option, Some, None, Result, Ok}
+use Rattle.std.specs.Prelude.{◌≡◌, ℕ, ◌+◌, ◌≤◌, ◌⊎◌, Bool, true, ◌||◌, nat_le, if◌then◌else◌, List, [], ◌∷◌, ◌++◌, map, length, Option, Some, None, Result, Ok}
 use Rattle.std.specs.List.{All, list_all}
 use Rattle.pl_base.specs.Answers.{◌>>=◌, because}
 use Rattle.pl_elf.specs.Headers.{header, loads, segments}

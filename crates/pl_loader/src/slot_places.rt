@@ -1,5 +1,5 @@
 // Prelinked libraries at their own slots.
-ghost use Rattle.std.specs.Prelude.{◌≡◌, ◌+◌, ◌<◌, ◌^◌, ◌++◌, length, IfOk, OnOk};
+ghost use Rattle.std.specs.Prelude.{◌≡◌, ◌+◌, ◌<◌, ◌^◌, ◌++◌, IfOk, OnOk};
 ghost use Rattle.std.specs.List.{All, list_all};
 ghost use Rattle.pl_loader.specs.Loading.{IsLibrary, IsRead};
 ghost use Rattle.pl_loader.specs.Places as spec;

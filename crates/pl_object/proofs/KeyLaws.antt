@@ -5,7 +5,7 @@ use Rattle.std.specs.BTreeMap.{BTreeMap, get_by}
 use Rattle.std.specs.Cmp.Lexicographic.{slice_cmp, bytes_decides}
 use Rattle.std.specs.Ordering.{nat_cmp}
 use denote.Ref.{Bor}
-use Rattle.std.specs.List.{list_any}
+use Rattle.std.specs.List.{cons_option, list_any}
 use Rattle.std.specs.Str.{bytes_eq}
 use Rattle.std.proofs.lemmas.Bool.{cases_Bool, false≢true}
 use Rattle.std.proofs.lemmas.List.{take_more, drop_more, drop_all}
@@ -21,7 +21,7 @@ use Rattle.pl_sym.specs.declared.class.Class.TheVariants.{Other}
 use Rattle.pl_sym.specs.Definers.{is_definer}
 use Rattle.pl_ver.specs.declared.versions.Versions.{Versions}
 use Rattle.pl_object.specs.SymbolClauses.{is_plain, version_name, is_same_name, is_same_version, is_twin, duplicate_definer}
-use Rattle.pl_object.specs.Keys.{plain_key, joined, with_version_name, version_key, push_key, keys}
+use Rattle.pl_object.specs.Keys.{plain_key, joined, with_version_name, version_key, keys}
 
 -- ---- a list row by row
 
@@ -108,7 +108,7 @@ module _ {X : Type 0} (key : X → Option (List ℕ)) where
   none_same [] = refl
   none_same (x ∷ xs) = none_same xs
 
-  one_by : (k : List ℕ) (o : Option (List ℕ)) (rest : Bool) (ks : List (List ℕ)) → rest ≡ list_any (bytes_eq k) ks → (is_same_name (Some k) o || rest) ≡ list_any (bytes_eq k) (push_key o ks)
+  one_by : (k : List ℕ) (o : Option (List ℕ)) (rest : Bool) (ks : List (List ℕ)) → rest ≡ list_any (bytes_eq k) ks → (is_same_name (Some k) o || rest) ≡ list_any (bytes_eq k) (cons_option o ks)
   one_by k None rest ks e = e
   one_by k (Some other) rest ks e = ap (λ (b : Bool). bytes_eq k other || b) e
 
@@ -116,7 +116,7 @@ module _ {X : Type 0} (key : X → Option (List ℕ)) where
   one_same k [] = refl
   one_same k (x ∷ xs) = one_by k (key x) (list_any (λ y. is_same_name (Some k) (key y)) xs) (keys key xs) (one_same k xs)
 
-  pairs_by : (o : Option (List ℕ)) (xs : List X) (rest : Bool) → rest ≡ any_pair bytes_eq (keys key xs) → (list_any (λ y. is_same_name o (key y)) xs || rest) ≡ any_pair bytes_eq (push_key o (keys key xs))
+  pairs_by : (o : Option (List ℕ)) (xs : List X) (rest : Bool) → rest ≡ any_pair bytes_eq (keys key xs) → (list_any (λ y. is_same_name o (key y)) xs || rest) ≡ any_pair bytes_eq (cons_option o (keys key xs))
   pairs_by None xs rest e = ap (λ (b : Bool). b || rest) (none_same xs) ∙ e
   pairs_by (Some k) xs rest e = rw (one_same k xs, e) refl
 
@@ -226,10 +226,10 @@ keys_append : {X : Type 0} (key : X → Option (List ℕ)) (xs ys : List X) → 
 keys_append key [] ys = refl
 keys_append key (x ∷ xs) ys = by (key x) (keys_append key xs ys)
   where
-    by : (o : Option (List ℕ)) → keys key (xs ++ ys) ≡ keys key xs ++ keys key ys → push_key o (keys key (xs ++ ys)) ≡ push_key o (keys key xs) ++ keys key ys
+    by : (o : Option (List ℕ)) → keys key (xs ++ ys) ≡ keys key xs ++ keys key ys → cons_option o (keys key (xs ++ ys)) ≡ cons_option o (keys key xs) ++ keys key ys
     by None e = e
     by (Some k) e = ap (λ (ks : List (List ℕ)). k ∷ ks) e
 
-pub key_next : {X : Type 0} (key : X → Option (List ℕ)) (xs : List X) (i : ℕ) (x : X) (ks : List (List ℕ)) → i < length xs → x ≡ get_or xs i x → ks ≡ keys key (take i xs) → ks ++ push_key (key x) [] ≡ keys key (take (i + 1) xs)
+pub key_next : {X : Type 0} (key : X → Option (List ℕ)) (xs : List X) (i : ℕ) (x : X) (ks : List (List ℕ)) → i < length xs → x ≡ get_or xs i x → ks ≡ keys key (take i xs) → ks ++ cons_option (key x) [] ≡ keys key (take (i + 1) xs)
 key_next key xs i x ks lt is so_far =
     rw so_far (sym (keys_append key (take i xs) (x ∷ [])) ∙ ap (keys key) (sym (take_more xs i x lt ∙ ap (λ r. take i xs ++ r ∷ []) (sym is))))

@@ -5,7 +5,6 @@ use Rattle.std.specs.List.{All}
 use Rattle.std.proofs.lemmas.Bool.{cases_Bool, and_parts, leb-true}
 use Rattle.std.proofs.lemmas.List.Elements.{All-nil, All-cons, All-weaker, All-head, All-tail}
 use Rattle.pl_base.specs.Sums.{round_up}
-use Rattle.pl_base.specs.Windows.{Window}
 use Rattle.pl_base.proofs.SumLaws.{round_up-at_least}
 use Rattle.pl_base.proofs.FindLaws.{find_passes}
 use Rattle.pl_elf.specs.Headers.{is_load, loads}

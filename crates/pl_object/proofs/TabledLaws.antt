@@ -1,9 +1,9 @@
 -- What acceptance says of an object's tables, by the tags of its dynamic table.
-use Rattle.std.proofs.Common.{◌≡◌, ℕ, ◌+◌, ◌-◌, ◌*◌, ◌/◌, ◌%◌, ◌<◌, ◌≤◌, Bool, true, false, List, [], ◌∷◌, ◌++◌, length, map, take, drop, Option, Some, None, Result, Ok, Err, refl, sym, ap, subst, ◌∙◌, arith, inl, inr}
+use Rattle.std.proofs.Common.{◌≡◌, ℕ, ◌+◌, ◌-◌, ◌*◌, ◌/◌, ◌%◌, ◌<◌, Bool, true, false, List, [], ◌∷◌, length, map, take, drop, Option, Some, None, Result, Ok, Err, refl, sym, ap, ◌∙◌, arith, inl, inr}
 use Rattle.std.specs.Prelude.{◌||◌, ◌&&◌, ◌==◌, not, nat_lt, is_some, find, if◌then◌else◌, is_ok}
-use Rattle.std.specs.List.{All, list_any}
+use Rattle.std.specs.List.{list_any}
 use Rattle.std.proofs.lemmas.Bool.{cases_Bool, and_parts, or_parts, eqb-true, ltb-true, leb-true, true≢false, not-false}
-use Rattle.pl_base.specs.Windows.{Window, end_of, within, any_share}
+use Rattle.pl_base.specs.Windows.{Window, end_of, any_share}
 use Rattle.pl_base.specs.Answers.{unless_found}
 use Rattle.pl_base.specs.Sums.{is_aligned}
 use Rattle.pl_base.proofs.AnswerLaws.{refuse_none, refuse_next, refuse_ok, ok_same}
@@ -15,7 +15,6 @@ use Rattle.pl_elf.specs.declared.constants.TheConstants.{PT_DYNAMIC, SHT_DYNSYM,
 use Rattle.pl_elf.specs.declared.header.Header.{Header}
 use Rattle.pl_elf.specs.declared.segment.Segment.{Segment}
 use Rattle.pl_elf.specs.declared.section.Section.{Section}
-use Rattle.pl_elf.specs.declared.range.Range.{Range}
 use Rattle.pl_dyn.specs.Entries.{tags, entries, is_ended, null_count, only_nulls_follow}
 use Rattle.pl_dyn.specs.Read as dyn
 use Rattle.pl_dyn.specs.declared.constants.TheConstants.{ENTRY_SIZE, DT_SYMTAB, DT_STRTAB, DT_STRSZ, DT_SYMENT, DT_RELASZ, DT_PLTRELSZ}
@@ -31,7 +30,7 @@ use Rattle.pl_relr.specs.declared.fault.RelrFault.{RelrFault}
 use Rattle.pl_relr.specs.declared.fault.RelrFault.TheVariants.{Packed}
 use Rattle.pl_object.specs.FilePart.{nothing, loader, loaded_by, file_window, in_file_part, loaded}
 use Rattle.pl_object.specs.Tables.{has_tag, value, memory_of, dynamic_memory, tag_memory, has_kind, section_size, symbols_memory, strings_memory, rela_memory, jmprel_memory, relr_memory, tables_memory, symtab_windows, main_windows, link_windows, window_range}
-use Rattle.pl_object.specs.TableClauses.{lacks_tags, is_misplaced, other_dynsym, any_lost, any_table_outside, tables_overlap, bad_tables, parted, is_other, is_uneven, bad_rela, bad_jmprel, bad_relocation_tables, meets, relr_table, bad_relr_tags, misplaced_relr, bad_relr_table, bad_packed, check_tables}
+use Rattle.pl_object.specs.TableClauses.{lacks_tags, is_misplaced, other_dynsym, any_lost, any_table_outside, tables_overlap, bad_tables, is_uneven, bad_rela, bad_jmprel, bad_relocation_tables, meets, relr_table, bad_relr_tags, misplaced_relr, bad_relr_table, bad_packed, check_tables}
 use Rattle.pl_object.specs.Named.{range_window, dynamic_of, symbols_of, strings_of, rela_of, jmprel_of, packed_of, symtabs_of}
 use Rattle.pl_object.specs.Reads.{dynamic, named_places, packed_places}
 use Rattle.pl_object.specs.Accepted.{AreWhole, AreNamed}

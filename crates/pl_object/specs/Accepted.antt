@@ -1,19 +1,16 @@
 -- What is known of every accepted object, beside that it is read from its file.
-use Rattle.std.specs.Prelude.{◌≡◌, ℕ, ◌+◌, ◌*◌, ◌%◌, ◌<◌, ◌≤◌, Bool, true, false, not, ◌==◌, List, ◌∷◌, ◌++◌, map, length, slice_get, is_some}
+use Rattle.std.specs.Prelude.{◌≡◌, ℕ, ◌+◌, ◌*◌, ◌%◌, ◌<◌, ◌≤◌, Bool, true, false, not, ◌==◌, List, ◌∷◌, ◌++◌, map, length, is_some}
 use Rattle.std.specs.List.{list_any, All}
 use Rattle.pl_base.specs.Windows.{Window, any_share}
 use Rattle.pl_elf.specs.Headers.{header, segments, sections, HasSegments, HasSections, loads, segment_of_kind}
 use Rattle.pl_elf.specs.Clauses.{AreLoads, segment_passes, overlap_in_file}
 use Rattle.pl_elf.specs.Kinds.{is_library, is_static}
 use Rattle.pl_elf.specs.declared.constants.TheConstants.{HEADER_SIZE, ET_EXEC, PT_DYNAMIC, RELA_SIZE, RELR_SIZE}
-use Rattle.pl_elf.specs.declared.range.Range.{Range}
 use Rattle.pl_dyn.specs.Entries.{tags}
 use Rattle.pl_dyn.specs.declared.constants.TheConstants.{ENTRY_SIZE, DT_SYMTAB, DT_STRTAB, DT_STRSZ}
 use Rattle.pl_dyn.specs.declared.tags.Tag.{Tag}
 use Rattle.pl_sym.specs.declared.constants.TheConstants.{SYMBOL_SIZE}
-use Rattle.pl_sym.specs.declared.symbol.Symbol.{Symbol}
 use Rattle.pl_hash.specs.Chain.{IsWellFormed}
-use Rattle.pl_hash.specs.Table.{HashTable}
 use Rattle.pl_relr.specs.Places as relr
 use Rattle.pl_object.specs.FilePart.{file_window, in_file_part, loaded}
 use Rattle.pl_object.specs.Tables.{has_tag, window_range, dynamic_memory, symbols_memory, strings_memory, rela_memory, jmprel_memory, relr_memory, tables_memory, symtab_windows, sections_window, main_windows, link_windows}
@@ -25,7 +22,6 @@ use Rattle.pl_object.specs.PlaceClauses as clauses
 use Rattle.pl_object.specs.PlaceClauses.{is_bad, reloc_outside, reloc_overlap, reloc_in_tables, odd_addend, misplaced_copy}
 use Rattle.pl_object.specs.Reads.{span, align}
 use Rattle.pl_object.specs.declared.object.Object.{Object}
-use Rattle.pl_object.specs.declared.reloc.Reloc.{Reloc}
 
 -- whether it is a program, with relocations or without
 abbrev pub is_exec : Object → Bool
@@ -55,10 +51,6 @@ dynamic_table bytes o = loaded bytes o.segments (dynamic_memory o.segments)
 
 abbrev pub tags_of : List ℕ → Object → List Tag
 tags_of bytes o = tags (dynamic_table bytes o)
-
--- the bytes of the symbol table
-abbrev pub symbol_table : List ℕ → Object → List ℕ
-symbol_table bytes o = loaded bytes o.segments (symbols_memory (tags_of bytes o) o.sections)
 
 -- the dynamic table and each table that a tag names, with these tags, lie in the file part, in whole rows
 pub record AreWhole (o : Object) (ts : List Tag) : Type 0 where

@@ -1,5 +1,6 @@
 -- Keys of definers: two of them have the same key where they answer to one name and version.
 use Rattle.std.specs.Prelude.{◌≡◌, ◌<◌, ℕ, Bool, ◌&&◌, ◌==◌, nat_lt, List, [], ◌∷◌, length, Option, Some, None, is_none, slice_get, slice_index_or, slice_set, find, if◌then◌else◌}
+use Rattle.std.specs.List.{cons_option}
 use Rattle.pl_sym.specs.declared.symbol.Symbol.{Symbol}
 use Rattle.pl_sym.specs.declared.class.Class.TheVariants.{Other}
 use Rattle.pl_sym.specs.Definers.{is_definer}
@@ -27,14 +28,10 @@ with_version_name name (Some version) = Some (joined version name)
 unfoldable pub version_key : Option Versions → Bool → Symbol → Option (List ℕ)
 version_key versions program s = if is_definer s Other program then with_version_name s.name (version_name versions s.version) else None
 
-abbrev pub push_key : Option (List ℕ) → List (List ℕ) → List (List ℕ)
-push_key None keys = keys
-push_key (Some key) keys = key ∷ keys
-
 -- the keys of the rows that have one
 abbrev pub keys : {X : Type 0} → (X → Option (List ℕ)) → List X → List (List ℕ)
 keys key [] = []
-keys key (x ∷ xs) = push_key (key x) (keys key xs)
+keys key (x ∷ xs) = cons_option (key x) (keys key xs)
 
 -- ---- versions by their indexes
 

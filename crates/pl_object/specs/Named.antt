@@ -1,5 +1,5 @@
 -- The link tables of an object that has a dynamic table, by their names. Each is a window of the file.
-use Rattle.std.specs.Prelude.{ℕ, ◌-◌, List, map, drop, slice_get, Option, Some, None}
+use Rattle.std.specs.Prelude.{ℕ, ◌-◌, List, drop, slice_get, Option, Some, None}
 use Rattle.pl_base.specs.Windows.{Window}
 use Rattle.pl_elf.specs.declared.range.Range.{Range}
 use Rattle.pl_object.specs.FilePart.{nothing}

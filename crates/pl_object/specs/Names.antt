@@ -1,6 +1,6 @@
 -- The names of an object: its needed libraries, its symbols and their versions (System V gABI chapter 5, "Dynamic Section"; GNU symbol versioning). Clauses 15 to 18.
 use Rattle.std.specs.Prelude.{ℕ, ◌*◌, Bool, not, ◌&&◌, ◌||◌, ◌==◌, List, [], ◌∷◌, filter, length, Option, Some, None, Result, Ok, Err, if◌then◌else◌}
-use Rattle.pl_base.specs.Answers.{◌>>=◌, unless, because}
+use Rattle.pl_base.specs.Answers.{Answers, ◌>>=◌, unless, because}
 use Rattle.pl_base.specs.Each.{each}
 use Rattle.pl_base.specs.Names.{is_valid_name}
 use Rattle.pl_elf.specs.declared.segment.Segment.{Segment}
@@ -16,7 +16,7 @@ use Rattle.pl_ver.specs.declared.constants.TheConstants.{VERSYM_SIZE}
 use Rattle.pl_ver.specs.declared.versions.Versions.{Versions}
 use Rattle.pl_object.specs.FilePart.{loaded}
 use Rattle.pl_object.specs.Tables.{has_tag, value, strings_memory, symbols_memory, section_memory}
-use Rattle.pl_object.specs.Refusals.{of_symbols, of_versions}
+use Rattle.pl_object.specs.Refusals.{is_memory, of_symbols, of_versions}
 use Rattle.pl_object.specs.declared.refusal.Refusal.{Refusal}
 use Rattle.pl_object.specs.declared.refusal.Refusal.TheVariants.{Clause}
 
@@ -29,6 +29,10 @@ checked_name (Some name) = if is_valid_name name then Ok name else Err (Clause 1
 
 unfoldable pub needed_name : List ℕ → Tag → Result (List ℕ) Refusal
 needed_name strings tag = checked_name (string_at tag.value strings)
+
+-- the answer is the name of a tag's library, or why it is refused, or it is a want of memory
+abbrev pub GivesNeeded : List ℕ → Tag → Result (List ℕ) Refusal → Type 0
+GivesNeeded strings tag result = Answers is_memory result (needed_name strings tag)
 
 -- the names of the needed libraries, in the order of their tags
 unfoldable pub needed : List Tag → List ℕ → Result (List (List ℕ)) Refusal

@@ -13,7 +13,7 @@ use std::alloc::{AllocError, Global};
 pub struct SortedTables<'a> {
     pub tables: &'a [Window],
 
-    /// For each number of tables, from 0 on, the one of so many first tables whose bytes end last.
+    /// For each number of tables, from 0 on, the one of so many first tables whose bytes end last; an empty window where none of them has bytes.
     pub furthest: &'a [Window],
 }
 
@@ -58,7 +58,7 @@ fn begins_before(table: &Window, window: &Window) -> bool
     table.at() < window.at() || table.at() - window.at() < u128::from(window.size())
 }
 
-/// For each number of tables, from 0 on, the one of so many first tables whose bytes end last.
+/// For each number of tables, from 0 on, the one of so many first tables whose bytes end last; an empty window where none of them has bytes. It fails only for want of memory.
 pub fn furthest_windows(alloc: Global, tables: &[Window]) -> Result<Vec<Window>, AllocError>
     ensures { IfOk result (λ v. v.items ≡ spec.furthest_windows nothing tables.now) }
 {

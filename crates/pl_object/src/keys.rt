@@ -1,5 +1,5 @@
 // Definers of one name and version, by their keys: for objects where so many of them have one hash, or there are so many versions, that comparing each two takes long.
-ghost use Rattle.std.specs.Prelude.{◌≡◌, ◌++◌, [], Some, IfOk, OnOk};
+ghost use Rattle.std.specs.Prelude.{◌≡◌, Some, IfOk};
 ghost use Rattle.pl_object.specs.SymbolClauses.{duplicate_definer};
 ghost use Rattle.pl_object.specs.Keys as spec;
 
@@ -28,16 +28,6 @@ fn plain_key(alloc: Global, program: bool, symbol: &Symbol) -> Result<Option<Row
     Ok(Some(copy_of(alloc, symbol.name.as_slice())?))
 }
 
-/// Adds the key of a row that has one.
-fn push_key(keys: &mut Rows<Rows<u8>>, key: Option<Rows<u8>>) -> Result<(), AllocError>
-    ensures { OnOk result (keys.new ≡ keys.old ++ spec.push_key key []) }
-{
-    match key {
-        None => Ok(()),
-        Some(key) => keys.push(key),
-    }
-}
-
 /// The names of the definers of no version, or of the base version.
 #[tactic(auto, using(crate::proofs::KeyLaws::key_next))]
 fn plain_keys(
@@ -50,7 +40,7 @@ fn plain_keys(
     let mut keys = Rows::new(alloc);
     for symbol in symbols {
         let key = plain_key(alloc, program, symbol)?;
-        push_key(&mut keys, key)?;
+        keys.push_some(key)?;
     }
     Ok(keys)
 }
@@ -91,7 +81,7 @@ fn placed_keys(
     let mut keys = Rows::new(alloc);
     for symbol in symbols {
         let key = version_key(alloc, versions, places, program, symbol)?;
-        push_key(&mut keys, key)?;
+        keys.push_some(key)?;
     }
     Ok(keys)
 }

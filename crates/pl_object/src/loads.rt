@@ -1,5 +1,5 @@
 // PT_LOADs, found by the bytes that they load.
-ghost use Rattle.std.specs.Prelude.{◌≡◌, ◌≤◌, length, nat_le, IfOk};
+ghost use Rattle.std.specs.Prelude.{◌≡◌, nat_le, IfOk};
 ghost use Rattle.pl_elf.specs.Clauses.{AreLoads};
 ghost use Rattle.pl_elf.specs.Headers as headers;
 ghost use Rattle.pl_object.specs.FilePart as spec;

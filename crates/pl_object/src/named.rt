@@ -1,5 +1,5 @@
 // The link tables of an object by their names.
-ghost use Rattle.std.specs.Prelude.{◌≡◌, slice_get};
+ghost use Rattle.std.specs.Prelude.{◌≡◌};
 ghost use Rattle.pl_object.specs.Named as spec;
 
 use crate::constants::{

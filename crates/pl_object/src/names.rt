@@ -21,7 +21,7 @@ use std::alloc::{AllocError, Global};
 
 #[tactic(auto, unfolding(crate::specs::Names::needed_name))]
 fn needed_name(alloc: Global, strings: &[u8], tag: &Tag) -> Result<Text, Refusal>
-    ensures { Answers is_memory result (spec.needed_name strings.now tag.now) }
+    ensures { spec.GivesNeeded strings.now tag.now result }
 {
     let Some(bytes) = string_at(strings, tag.value) else {
         return Err(Refusal::clause(15));
@@ -40,7 +40,7 @@ fn read_name(
     tag: &Tag,
 ) -> Result<Text, Refusal>
     requires { AreRead strings.now read.old }
-    ensures name { Answers is_memory result (spec.needed_name strings.now tag.now) }
+    ensures name { spec.GivesNeeded strings.now tag.now result }
     ensures read { OnOk result (AreRead strings.now read.new) }
 {
     let name = needed_name(alloc, strings, tag)?;
@@ -51,7 +51,7 @@ fn read_name(
 /// The name of a tag's library. One that was read at its offset before is not read again.
 fn name_at(alloc: Global, read: &mut NamesRead, strings: &[u8], tag: &Tag) -> Result<Text, Refusal>
     requires { AreRead strings.now read.old }
-    ensures name { Answers is_memory result (spec.needed_name strings.now tag.now) }
+    ensures name { spec.GivesNeeded strings.now tag.now result }
     ensures read { OnOk result (AreRead strings.now read.new) }
 {
     match read.again(alloc, tag.value)? {

@@ -22,7 +22,7 @@ impl NamesRead {
         }
     }
 
-    /// The name that was read at an offset, if one was.
+    /// The name that was read at an offset, if one was. It fails only for want of memory.
     pub fn again(&self, alloc: Global, at: u64) -> Result<Option<Text>, AllocError>
         ensures { IfOk result (λ name. name ≡ spec.name_read self.now at) }
     {
@@ -32,7 +32,7 @@ impl NamesRead {
         }
     }
 
-    /// Keeps the name that was read at an offset.
+    /// Keeps the name that was read at an offset. It fails only for want of memory, and no clause says what is kept then.
     pub fn keep(&mut self, alloc: Global, at: u64, name: &Text) -> Result<(), AllocError>
         ensures { OnOk result (spec.IsNameKept self.old at name.now self.new) }
     {

@@ -180,7 +180,7 @@ fn any_run(
     false
 }
 
-/// The most comparisons of versions for which each two definers of one hash are compared: so many take less time than it takes to read the file.
+/// The most pairs of definers of one hash, times one more than the versions of the object, for which each two are compared; where there are more, a map finds twins. The answer is the same.
 const FEW: usize = 0x1_0000;
 
 /// Whether few enough of the entries have one hash, and there are few enough versions, that each two of one hash may be compared.

@@ -7,7 +7,6 @@ use Rattle.pl_object.specs.declared.object.Object.{Object}
 use Rattle.pl_pie.specs.Fix.{fits, fixed_bytes}
 use Rattle.pl_pie.specs.Pie.{pie}
 use Rattle.pl_pie.proofs.FitLaws.{fits_may}
-use Rattle.pl_place.specs.Policy.{Choice}
 use Rattle.pl_pie.specs.Placed.{FixedFilesAreBare, IsSmall, fixed_at, pie_holes, placed, placed_by}
 use Rattle.pl_pie.specs.declared.placing.Placing.{Placing}
 use Rattle.pl_pie.specs.declared.placing.Placing.TheVariants.{Fixed, NoPlace}

@@ -1,5 +1,5 @@
 -- The entries of a dynamic table that is read: none of them has a tag that acceptance does not know.
-use Rattle.std.proofs.Common.{◌≡◌, ℕ, ◌+◌, ◌-◌, ◌*◌, ◌/◌, ◌%◌, ◌<◌, ◌≤◌, Bool, true, false, List, length, take, drop, get_or, Option, Some, None, Result, Ok, refl, sym, ap, ◌∙◌, arith, inl, inr}
+use Rattle.std.proofs.Common.{◌≡◌, ℕ, ◌+◌, ◌-◌, ◌/◌, ◌%◌, ◌<◌, Bool, true, false, List, length, take, drop, get_or, Option, Some, None, Result, Ok, refl, sym, ap, ◌∙◌, arith, inl, inr}
 use Rattle.std.specs.Prelude.{◌&&◌, ◌==◌, find, nat_lt, not}
 use Rattle.std.specs.List.{before_first, list_all, position_or_len}
 use Rattle.std.proofs.lemmas.Bool.{and_parts, cases_lt, not-false, true≢false}

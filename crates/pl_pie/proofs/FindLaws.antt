@@ -1,6 +1,6 @@
 -- The first element of a list that passes a test, in lists that are alike for the test.
-use Rattle.std.proofs.Common.{◌≡◌, ℕ, zero, suc, ◌+◌, ◌<◌, Bool, true, false, List, [], ◌∷◌, ◌++◌, length, take, drop, get_or, Option, Some, refl, sym, ap, ◌∙◌, arith, inl, inr}
-use Rattle.std.specs.Prelude.{◌&&◌, ◌||◌, find}
+use Rattle.std.proofs.Common.{◌≡◌, ℕ, suc, ◌<◌, Bool, true, false, List, [], ◌∷◌, ◌++◌, length, take, drop, get_or, Some, refl, sym, ap, ◌∙◌, arith, inl, inr}
+use Rattle.std.specs.Prelude.{find}
 use Rattle.std.specs.List.{before_first, list_all, list_any, position_or_len}
 use Rattle.std.proofs.lemmas.Bool.{and_parts, cases_Bool, or_from, or_parts}
 use Rattle.std.proofs.lemmas.List.{take-append-drop}

@@ -1,8 +1,8 @@
 -- What holds by a policy that is asked at most once.
-use Rattle.std.proofs.Common.{◌≡◌, ℕ, List, Option, Some, None, refl, sym, ap, ◌∙◌}
+use Rattle.std.proofs.Common.{List, Option, Some, None, refl, sym, ap, ◌∙◌}
 use Rattle.pl_elf.specs.declared.range.Range.{Range}
 use Rattle.pl_place.specs.Policy.{Answering, Choice, Follows}
-use Rattle.pl_pie.specs.Placed.{AnswersSo, Asked, HoldsBy, WasAsked, pie_holes}
+use Rattle.pl_pie.specs.Placed.{AnswersSo, Asked, HoldsBy, WasAsked}
 
 answers_so : (post : Answering) (choose : Choice) → Follows post choose → (asked : Option Asked) → WasAsked post asked → AnswersSo asked choose
 answers_so post choose follows None was = tt

@@ -4,7 +4,7 @@ use Rattle.std.specs.Prelude.{◌&&◌, ◌||◌, ◌==◌, bit_and, is_some, no
 use Rattle.std.specs.List.{range_with_len}
 use Rattle.std.specs.Option.{option_map}
 use Rattle.std.specs.Result.{is_ok}
-use Rattle.std.proofs.lemmas.Bool.{cases_Bool, eqb-true, or_parts, true≢false}
+use Rattle.std.proofs.lemmas.Bool.{cases_Bool, or_parts, true≢false}
 use Rattle.pl_base.specs.Bytes.{bytes16, word16, word64}
 use Rattle.pl_base.specs.Windows.{Window, within}
 use Rattle.pl_base.proofs.AnswerLaws.{bind_ok, refuse_none}
@@ -17,7 +17,7 @@ use Rattle.pl_dyn.specs.Read as dyn
 use Rattle.pl_dyn.specs.Read.{value_of}
 use Rattle.pl_dyn.specs.declared.dynamic.Dynamic.{Dynamic}
 use Rattle.pl_dyn.specs.declared.tags.Tag.{Tag}
-use Rattle.pl_elf.specs.Clauses.{AreLoads, bad_load}
+use Rattle.pl_elf.specs.Clauses.{bad_load}
 use Rattle.pl_elf.specs.Headers.{header, is_load, is_moved_kind, loads, segment_at, segment_of_kind, segments}
 use Rattle.pl_elf.specs.Kinds.{is_static}
 use Rattle.pl_elf.specs.declared.constants.TheConstants.{ADDRESS_LIMIT, ET_EXEC}
@@ -25,7 +25,6 @@ use Rattle.pl_elf.specs.declared.header.Header.{Header}
 use Rattle.pl_elf.specs.declared.segment.Segment.{Segment}
 use Rattle.pl_elf.proofs.AcceptedLaws.{load_fits}
 use Rattle.law_fixed.specs.Fixed.{fixed_segment}
-use Rattle.law_fixed.specs.Stays.{moved_window}
 use Rattle.pl_form.specs.Files.{marked_in}
 use Rattle.pl_form.specs.Marks.{IsFormOf}
 use Rattle.pl_form.specs.Program.{last_index}
@@ -69,7 +68,7 @@ use Rattle.pl_pie.proofs.AtLaws.{IsFound, dynamic_of, found_is, headers_of, layo
 use Rattle.pl_pie.proofs.CallLaws.{pie_long}
 use Rattle.pl_pie.proofs.ExactLaws.{unfix_exact}
 use Rattle.pl_pie.proofs.MemoryLaws.{are_standing, dynamic_memory_moves, segment_found, window_stays}
-use Rattle.pl_pie.proofs.PieLaws.{IsPie, and_both, not_static, pie_is, pie_type}
+use Rattle.pl_pie.proofs.PieLaws.{IsPie, not_static, pie_is, pie_type}
 use Rattle.pl_pie.proofs.RowOfLaws.{range_same}
 use Rattle.pl_pie.proofs.EntriesLaws.{IsRead, read_is}
 use Rattle.pl_pie.proofs.FixedLaws.{library_type, no_mark}

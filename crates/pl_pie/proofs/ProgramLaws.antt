@@ -1,14 +1,13 @@
 -- The form of a program has a tag that acceptance refuses, so no file whose dynamic table is read is one.
-use Rattle.std.proofs.Common.{◌≡◌, ℕ, zero, suc, ◌+◌, ◌*◌, ◌/◌, ◌<◌, ◌≤◌, Bool, true, false, List, [], ◌∷◌, ◌++◌, length, get_or, map, Option, Some, Ok, refl, sym, ap, subst, ◌∙◌, arith, inl, inr}
+use Rattle.std.proofs.Common.{◌≡◌, ℕ, zero, suc, ◌+◌, ◌*◌, ◌<◌, true, false, List, [], ◌∷◌, ◌++◌, length, get_or, map, Option, Some, Ok, refl, sym, ap, subst, ◌∙◌, arith, inl, inr}
 use Rattle.std.specs.Prelude.{◌&&◌, ◌==◌, ◌≢◌, nat_le, nat_lt}
 use Rattle.std.proofs.lemmas.Bool.{cases_Bool, eqb-true}
 use Rattle.std.proofs.lemmas.Bool.Decides.{nat_tests}
 use Rattle.std.proofs.lemmas.List.{length-append}
-use Rattle.pl_base.specs.Bytes.{bytes64, part, word64}
+use Rattle.pl_base.specs.Bytes.{bytes64, word64}
 use Rattle.pl_base.specs.Windows.{Window, within}
 use Rattle.pl_base.proofs.WindowLaws.{all_in, length-within, within_put}
 use Rattle.pl_base.proofs.WordLaws.{word64_back, word64_front, word64_part}
-use Rattle.pl_dyn.specs.Entries.{entry, is_null}
 use Rattle.pl_dyn.specs.Kinds.{is_address_tag, is_listed, is_prelink_tag, is_unknown, is_value_tag}
 use Rattle.pl_dyn.specs.Read as dyn
 use Rattle.pl_dyn.specs.declared.dynamic.Dynamic.{Dynamic}

@@ -1,6 +1,6 @@
 -- Loosening undoes fixing.
-use Rattle.std.proofs.Common.{◌≡◌, ℕ, ◌+◌, ◌%◌, ◌^◌, ◌≤◌, Bool, true, false, List, [], ◌∷◌, length, Option, Some, None, Result, Ok, Err, refl, ap, subst, ◌∙◌, arith}
-use Rattle.std.specs.Prelude.{◌&&◌, ◌==◌, nat_le, if◌then◌else◌}
+use Rattle.std.proofs.Common.{◌≡◌, ℕ, ◌+◌, ◌%◌, ◌^◌, ◌≤◌, true, List, [], ◌∷◌, length, Some, Ok, refl, ap, ◌∙◌, arith}
+use Rattle.std.specs.Prelude.{◌&&◌, ◌==◌, nat_le}
 use Rattle.std.proofs.lemmas.Bool.Decides.{nat_tests}
 use Rattle.std.specs.Str.{bytes_eq}
 use Rattle.std.proofs.lemmas.Slice.Eq.{bytes_eq-Decides}
@@ -9,7 +9,6 @@ use Rattle.pl_base.specs.Windows.{AllIn}
 use Rattle.pl_elf.specs.Kinds.{is_program}
 use Rattle.pl_object.specs.Reads.{reads}
 use Rattle.pl_object.specs.declared.object.Object.{Object}
-use Rattle.pl_object.specs.declared.refusal.Refusal.{Refusal}
 use Rattle.pl_move.specs.Moves.{table_windows, moved, all_moved, all_back}
 use Rattle.pl_move.specs.declared.table.Table.{Table}
 use Rattle.pl_move.specs.Objects.{tables_of, LieIn}
@@ -17,7 +16,7 @@ use Rattle.pl_move.proofs.MoveLaws.{back_undoes, length-all_moved, length-moved,
 use Rattle.pl_move.proofs.ObjectLaws.{tables_in}
 use Rattle.pl_pie.specs.Words.{other_words}
 use Rattle.pl_pie.specs.Pie.{typed, as_program, pie}
-use Rattle.pl_pie.specs.Fix.{added, taken, word_windows, fixed_bytes, fits, page_of, loosened, checked_by, checked, unfixed_by, unfixed}
+use Rattle.pl_pie.specs.Fix.{added, taken, word_windows, fixed_bytes, fits, page_of, loosened, checked, unfixed}
 use Rattle.pl_pie.specs.Laws.{UnfixUndoes}
 use Rattle.pl_pie.proofs.BackAgain.{IsTakenBack, taken_again}
 use Rattle.pl_pie.proofs.FitLaws.{is_fit}

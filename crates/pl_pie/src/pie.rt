@@ -1,6 +1,6 @@
 // Which files are position-independent programs that can be fixed.
-ghost use Rattle.std.specs.Prelude.{◌≡◌, ◌==◌, ◌+◌, ◌<◌, ◌≤◌, ◌^◌, length, IfOk};
-ghost use Rattle.pl_base.specs.Bytes.{bytes16, put, word16};
+ghost use Rattle.std.specs.Prelude.{◌≡◌, ◌==◌, ◌<◌, ◌≤◌, ◌^◌, length, IfOk};
+ghost use Rattle.pl_base.specs.Bytes.{word16};
 ghost use Rattle.pl_object.specs.Accepted.{Accepted};
 ghost use Rattle.pl_pie.specs.Pie as spec;
 

@@ -1,11 +1,7 @@
 // The points of the definition of a position-independent program that can be fixed: its mark and its layout.
-ghost use Rattle.std.specs.Prelude.{◌≡◌, ◌&&◌, ◌++◌, ◌<◌, ◌≤◌, ◌^◌, drop, false, length, map, take, slice_get, IfOk};
-ghost use Rattle.std.specs.List.{list_any};
-ghost use Rattle.pl_base.specs.Windows.{share};
-ghost use Rattle.pl_elf.specs.Clauses as clauses;
+ghost use Rattle.std.specs.Prelude.{◌≡◌, ◌&&◌, ◌<◌, ◌≤◌, ◌^◌, drop, false, length, map, take, slice_get, IfOk};
 ghost use Rattle.pl_elf.specs.Kinds as kinds;
-ghost use Rattle.pl_object.specs.Accepted.{Accepted, tags_of};
-ghost use Rattle.pl_object.specs.Named as named;
+ghost use Rattle.pl_object.specs.Accepted.{Accepted};
 ghost use Rattle.pl_object.specs.Reads as reads;
 ghost use Rattle.pl_object.specs.SymbolClauses.{base_not_zero};
 ghost use Rattle.pl_object.specs.Tables as tables;

@@ -1,5 +1,5 @@
 // The words that move with a program's address, beside those in rows of tables.
-ghost use Rattle.std.specs.Prelude.{◌≡◌, ◌+◌, ◌*◌, ◌++◌, ◌<◌, ◌^◌, map, slice_get, IfOk};
+ghost use Rattle.std.specs.Prelude.{◌≡◌, ◌+◌, ◌*◌, ◌<◌, ◌^◌, map, slice_get, IfOk};
 ghost use Rattle.pl_object.specs.PlaceClauses.{last_packed};
 ghost use Rattle.pl_object.specs.Named.{symbols_of};
 ghost use Rattle.pl_object.specs.Tables as tables;

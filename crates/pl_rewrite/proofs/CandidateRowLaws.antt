@@ -15,9 +15,9 @@ use Rattle.pl_cone.specs.Skips.{of_walk}
 use Rattle.pl_cone.specs.Table.{AreRows, IsLinkBy, IsPlan, IsRunTable, has_no_cause, is_candidate_row, walked_by}
 use Rattle.pl_cone.specs.Taken.{files_in}
 use Rattle.pl_cone.specs.WalkRows.{IsCandidateRow}
-use Rattle.pl_cone.specs.declared.asked.Asked.{Asked}
-use Rattle.pl_cone.specs.declared.link.Link.{Link}
-use Rattle.pl_cone.specs.declared.plan.RowPlan.{RowPlan}
+use Rattle.pl_cone.specs.declared.planning.Asked.{Asked}
+use Rattle.pl_cone.specs.declared.linking.Link.{Link}
+use Rattle.pl_cone.specs.declared.planning.RowPlan.{RowPlan}
 use Rattle.pl_cone.specs.declared.skip.Skip.{Skip}
 use Rattle.pl_cone.specs.declared.table.RunTable.{RunTable}
 use Rattle.pl_cone.specs.declared.taken.Taken.{Taken}

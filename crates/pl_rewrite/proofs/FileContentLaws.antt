@@ -19,7 +19,7 @@ use Rattle.pl_rewrite.specs.RemainingRows.{RefusesAll}
 use Rattle.pl_rewrite.specs.Rows.{IsPlacedWalk, firms_of}
 use Rattle.pl_rewrite.specs.Sources.{AreSources}
 use Rattle.pl_rewrite.specs.declared.numbers.PlacedWalk.{PlacedWalk}
-use Rattle.pl_rewrite.specs.declared.outcome.NewProgram.{NewProgram}
+use Rattle.pl_rewrite.specs.declared.outcomes.NewProgram.{NewProgram}
 use Rattle.pl_rewrite.specs.declared.program.Contents.{Contents}
 use Rattle.pl_rewrite.specs.declared.program.Work.{Work}
 use Rattle.pl_rewrite.proofs.ProgramContentLaws.{contents_refused, whole_versions}

@@ -6,8 +6,8 @@ use Rattle.std.proofs.lemmas.List.{append-nil}
 use Rattle.pl_cone.specs.Plans.{RunPlan, Standing, planned}
 use Rattle.pl_cone.specs.Table.{IsPlan, IsRunTable, names_where, planned_by}
 use Rattle.pl_cone.specs.Taken.{AreTaken, HasItsEntry, files_in, names_of, taken_of}
-use Rattle.pl_cone.specs.declared.asked.Asked.{Asked}
-use Rattle.pl_cone.specs.declared.plan.RowPlan.{RowPlan}
+use Rattle.pl_cone.specs.declared.planning.Asked.{Asked}
+use Rattle.pl_cone.specs.declared.planning.RowPlan.{RowPlan}
 use Rattle.pl_cone.specs.declared.table.RunTable.{RunTable}
 use Rattle.pl_cone.specs.declared.taken.Taken.{Taken}
 use Rattle.pl_cone.proofs.PlanLaws.{standings_are}
@@ -19,7 +19,7 @@ use Rattle.pl_rewrite.specs.Outcomes.{AreOutcomes, IsOutcome, MayBe, made_from, 
 use Rattle.pl_rewrite.specs.Rewriting.{AreDecided, rewritten, run_made}
 use Rattle.pl_rewrite.specs.declared.finishing.MadeFiles.{MadeFiles}
 use Rattle.pl_rewrite.specs.declared.finishing.Made.{Made}
-use Rattle.pl_rewrite.specs.declared.outcome.RowOutcome.{RowOutcome}
+use Rattle.pl_rewrite.specs.declared.outcomes.RowOutcome.{RowOutcome}
 use Rattle.pl_rewrite.specs.declared.rewriting.Rewritten.{Rewritten}
 use Rattle.pl_rewrite.proofs.PlanLaws.{made_append, made_none, rewritten_is}
 

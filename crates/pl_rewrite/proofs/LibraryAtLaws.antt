@@ -13,7 +13,7 @@ use Rattle.pl_cone.specs.Skipped.{skip_causes}
 use Rattle.pl_cone.specs.Table.{walk_for, walked_by}
 use Rattle.pl_cone.specs.Taken.{files_in, object_by, object_of}
 use Rattle.pl_cone.specs.WalkRows.{GivesOneWordAt, HasOwnWalk}
-use Rattle.pl_cone.specs.declared.link.Link.{Link}
+use Rattle.pl_cone.specs.declared.linking.Link.{Link}
 use Rattle.pl_cone.specs.declared.taken.Taken.{Taken}
 use Rattle.pl_cone.specs.declared.values.WalkLinking.{WalkLinking}
 use Rattle.pl_cone.proofs.FolderLaws.{member_has}
@@ -48,7 +48,7 @@ use Rattle.pl_rewrite.specs.Forms.{IsLibraryWalk}
 use Rattle.pl_rewrite.specs.Rows.{IsNumbered, IsWalkRow, firms_of, number_at, of_firm, places_of, walk_of}
 use Rattle.pl_rewrite.specs.RowWords.{IsLinkAt, own_words_at}
 use Rattle.pl_rewrite.specs.Sources.{AreSources, AreVersionsOf, versioned}
-use Rattle.pl_rewrite.specs.declared.held.HeldWord.{HeldWord}
+use Rattle.pl_rewrite.specs.declared.row_words.HeldWord.{HeldWord}
 use Rattle.pl_rewrite.specs.declared.numbers.Numbered.{Numbered}
 use Rattle.pl_rewrite.specs.declared.program.Work.{Work}
 use Rattle.pl_rewrite.specs.declared.row_words.RowWords.{RowWords}

@@ -14,7 +14,7 @@ use Rattle.pl_object.specs.declared.object.Object.{Object}
 use Rattle.pl_form.specs.Back.{when}
 use Rattle.pl_rewrite.specs.Forms.{file_with}
 use Rattle.pl_rewrite.specs.Libraries.{HasForm, HasFormBy, firm_of, storable_library}
-use Rattle.pl_rewrite.specs.declared.outcome.NewLibrary.{NewLibrary}
+use Rattle.pl_rewrite.specs.declared.outcomes.NewLibrary.{NewLibrary}
 use Rattle.pl_rewrite.proofs.FirmLaws.{version_back}
 
 pub has_form : (t : Taken) (parts : NewLibrary) (o : Object) → HasForm t parts → Some o ≡ object_by t.entry → HasFormBy t parts (Some o)

@@ -1,7 +1,7 @@
 -- What is made of the rows of files, row by row.
 use Rattle.std.proofs.Common.{◌≡◌, ℕ, ◌+◌, ◌<◌, Bool, true, false, List, [], ◌∷◌, ◌++◌, length, Option, Some, None, refl, sym, ap, subst, ◌∙◌}
 use Rattle.std.specs.Prelude.{◌&&◌, not, slice_get}
-use Rattle.std.specs.Option.{option_or}
+use Rattle.std.specs.Option.{option_flatten, option_or}
 use Rattle.std.proofs.lemmas.Option.{none-some, same_Some}
 use Rattle.pl_cone.specs.declared.skip.Skip.{Skip}
 use Rattle.pl_cone.specs.declared.taken.Taken.{Taken}
@@ -10,12 +10,12 @@ use Rattle.pl_form.specs.declared.version.Version.{Version}
 use Rattle.pl_form.specs.declared.version.Version.TheVariants.{Two}
 use Rattle.pl_rewrite.specs.Contents.{IsNewProgram}
 use Rattle.pl_rewrite.specs.Libraries.{IsNewIfAny}
-use Rattle.pl_rewrite.specs.Outcomes.{AreAll, AreProgramsMade, IsIf, IsLibraryIf, IsMadeAt, IsOutcomeFor, IsProgramIf, IsTooLarge, is_library_at, is_stale, joined, too_large}
+use Rattle.pl_rewrite.specs.Outcomes.{AreAll, AreProgramsMade, IsIf, IsLibraryIf, IsMadeAt, IsOutcomeFor, IsProgramIf, IsTooLarge, is_library_at, is_stale, too_large}
 use Rattle.pl_rewrite.specs.Rows.{IsFileMeant, IsWalkRow, firms_of, is_library_row}
 use Rattle.pl_rewrite.specs.declared.numbers.Numbered.{Numbered}
-use Rattle.pl_rewrite.specs.declared.outcome.NewLibrary.{NewLibrary}
-use Rattle.pl_rewrite.specs.declared.outcome.NewProgram.{NewProgram}
-use Rattle.pl_rewrite.specs.declared.outcome.RowOutcome.{RowOutcome}
+use Rattle.pl_rewrite.specs.declared.outcomes.NewLibrary.{NewLibrary}
+use Rattle.pl_rewrite.specs.declared.outcomes.NewProgram.{NewProgram}
+use Rattle.pl_rewrite.specs.declared.outcomes.RowOutcome.{RowOutcome}
 use Rattle.pl_rewrite.proofs.RowByRowLaws.{each_pushed}
 use Rattle.pl_rewrite.proofs.VersionLaws.{firms_in_two, set_versions, sources_versions}
 use Rattle.pl_rewrite.proofs.WholeLaws.{prelinked_none}
@@ -74,9 +74,9 @@ pub programs_more : (n : Numbered) (stale : List Bool) (all after : List (Option
 programs_more n stale all after o row same is more so_far = each_pushed (IsProgramIf n stale) all after o more (subst (λ (k : ℕ). IsProgramIf n stale k o) (sym same) is) so_far
 
 pub made_more : (n : Numbered) (stale : List Bool) (programs all after : List (Option RowOutcome)) (row : ℕ) (l p o item : Option RowOutcome) (next : Option (Option RowOutcome)) → row ≡ length all → AreProgramsMade n stale programs → next ≡ Some item → slice_get programs row ≡ Some item
-    → IsLibraryIf n stale row l → p ≡ joined next → o ≡ option_or l p → after ≡ all ++ o ∷ [] → MadeTo n stale all → MadeTo n stale after
+    → IsLibraryIf n stale row l → p ≡ option_flatten next → o ≡ option_or l p → after ≡ all ++ o ∷ [] → MadeTo n stale all → MadeTo n stale after
 made_more n stale programs all after row l p o item next same are is at library taken made more so_far =
-    let program : IsProgramIf n stale row p = subst (IsProgramIf n stale row) (sym (taken ∙ ap joined is)) (are.each row item at) in
+    let program : IsProgramIf n stale row p = subst (IsProgramIf n stale row) (sym (taken ∙ ap option_flatten is)) (are.each row item at) in
     let one : IsMadeIf n stale row (option_or l p) = made_if (IsMadeAt n row) (is_stale stale row) (is_library_at n row) l p library program in
     let here : IsMadeIf n stale (length all) o = subst (λ (k : ℕ). IsMadeIf n stale k o) same (subst (IsMadeIf n stale row) (sym made) one) in
     each_pushed (IsMadeIf n stale) all after o more here so_far
@@ -90,9 +90,9 @@ abbrev pub AllTo : List Taken → List (Option Skip) → List (Option RowOutcome
 AllTo ts causes made os = (row : ℕ) (o : RowOutcome) → slice_get os row ≡ Some o → IsAllAt ts causes made row o
 
 pub all_more : (ts : List Taken) (causes : List (Option Skip)) (made : List (Option RowOutcome)) (os after : List RowOutcome) (row : ℕ) (t : Taken) (c : Option Skip) (m item : Option RowOutcome) (next : Option (Option RowOutcome)) (o : RowOutcome) → row ≡ length os
-    → slice_get ts row ≡ Some t → slice_get causes row ≡ Some c → next ≡ Some item → slice_get made row ≡ Some item → m ≡ joined next → IsOutcomeFor t c m o → after ≡ os ++ o ∷ [] → AllTo ts causes made os → AllTo ts causes made after
+    → slice_get ts row ≡ Some t → slice_get causes row ≡ Some c → next ≡ Some item → slice_get made row ≡ Some item → m ≡ option_flatten next → IsOutcomeFor t c m o → after ≡ os ++ o ∷ [] → AllTo ts causes made os → AllTo ts causes made after
 all_more ts causes made os after row t c m item next o same file cause is at taken so more so_far =
-    let item_is : m ≡ item = taken ∙ ap joined is in
+    let item_is : m ≡ item = taken ∙ ap option_flatten is in
     let one : IsAllAt ts causes made row o = λ u d n there that those.
     subst (λ (x : Taken). IsOutcomeFor x d n o) (same_Some t u (sym file ∙ there))
     (subst (λ (x : Option Skip). IsOutcomeFor t x n o) (same_Some c d (sym cause ∙ that))

@@ -17,7 +17,7 @@ use Rattle.pl_rewrite.specs.Libraries.{IsNew, firm_of, storable_library}
 use Rattle.pl_rewrite.specs.Rows.{IsFileMeant, IsFirmAt, IsWalkRow, firms_of, is_library_row}
 use Rattle.pl_rewrite.specs.Sources.{AreSources, AreVersionsOf, BeginsIn, IsVersionOf, members, versioned}
 use Rattle.pl_rewrite.specs.declared.numbers.Numbered.{Numbered}
-use Rattle.pl_rewrite.specs.declared.outcome.NewLibrary.{NewLibrary}
+use Rattle.pl_rewrite.specs.declared.outcomes.NewLibrary.{NewLibrary}
 use Rattle.pl_rewrite.proofs.NewLibraryLaws.{IsFirst, first_is, library_firm}
 use Rattle.pl_rewrite.proofs.NewRowLaws.{library_object, made_firm}
 use Rattle.pl_rewrite.proofs.VersionLaws.{firms_in_two, lists_versions, objects_versions, set_versions, slots_versions, sources_versions}

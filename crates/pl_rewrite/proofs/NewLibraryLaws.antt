@@ -12,7 +12,7 @@ use Rattle.pl_rewrite.specs.Rows.{IsFirmAt, IsNumbered, IsWalkRow, firms_of, is_
 use Rattle.pl_rewrite.specs.RowWords.{own_words_at}
 use Rattle.pl_rewrite.specs.Sources.{AreSources}
 use Rattle.pl_rewrite.specs.declared.numbers.Numbered.{Numbered}
-use Rattle.pl_rewrite.specs.declared.outcome.NewLibrary.{NewLibrary}
+use Rattle.pl_rewrite.specs.declared.outcomes.NewLibrary.{NewLibrary}
 use Rattle.pl_rewrite.proofs.FirmRowLaws.{firms_zip, row_of, row_slot}
 use Rattle.pl_rewrite.proofs.WholeLaws.{library_has_form}
 use Rattle.sha2.specs.Sha256.{sha256}

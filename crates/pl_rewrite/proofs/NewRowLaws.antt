@@ -14,7 +14,7 @@ use Rattle.pl_rewrite.specs.Forms.{HasFormWith}
 use Rattle.pl_rewrite.specs.Libraries.{HasForm, HasFormBy, IsNew, firm_of}
 use Rattle.pl_rewrite.specs.Rows.{firm_by, number_at}
 use Rattle.pl_rewrite.specs.declared.numbers.Numbered.{Numbered}
-use Rattle.pl_rewrite.specs.declared.outcome.NewLibrary.{NewLibrary}
+use Rattle.pl_rewrite.specs.declared.outcomes.NewLibrary.{NewLibrary}
 use Rattle.pl_rewrite.proofs.FirmRowLaws.{IsRowOf, row_of}
 
 -- the member that is made by them

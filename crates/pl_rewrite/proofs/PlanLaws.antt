@@ -7,7 +7,7 @@ use Rattle.pl_base.proofs.AnswerLaws.{bind_ok, ok_same}
 use Rattle.pl_elf.specs.declared.range.Range.{Range}
 use Rattle.pl_journal.specs.declared.change.Change.{Change}
 use Rattle.pl_cone.specs.Plans.{planned, slots, stale, stamp_for, standings}
-use Rattle.pl_cone.specs.declared.asked.Asked.{Asked}
+use Rattle.pl_cone.specs.declared.planning.Asked.{Asked}
 use Rattle.pl_cone.specs.declared.fault.PlanningFault.{PlanningFault}
 use Rattle.pl_cone.specs.Plans.{RunPlan}
 use Rattle.pl_slots.specs.declared.slot.Slot.{Slot}

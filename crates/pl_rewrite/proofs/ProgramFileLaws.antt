@@ -16,7 +16,7 @@ use Rattle.pl_rewrite.specs.Rows.{IsFileMeant, IsPlacedWalk, firms_of, of_firm}
 use Rattle.pl_rewrite.specs.Sources.{AreVersionsOf, members}
 use Rattle.pl_rewrite.specs.declared.numbers.Numbered.{Numbered}
 use Rattle.pl_rewrite.specs.declared.numbers.PlacedWalk.{PlacedWalk}
-use Rattle.pl_rewrite.specs.declared.outcome.NewProgram.{NewProgram}
+use Rattle.pl_rewrite.specs.declared.outcomes.NewProgram.{NewProgram}
 use Rattle.pl_rewrite.specs.declared.program.Work.{Work}
 use Rattle.pl_rewrite.proofs.CountLaws.{rows_counted}
 use Rattle.pl_rewrite.proofs.FirmRowLaws.{firm_objects}

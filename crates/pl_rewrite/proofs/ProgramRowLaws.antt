@@ -6,7 +6,7 @@ use Rattle.std.proofs.lemmas.Bool.{and_parts, cases_lt, eq-eqb, false≢true, or
 use Rattle.std.proofs.lemmas.Option.{none-some, same_Some, slice_get_within}
 use Rattle.pl_cone.specs.Candidates as candidates
 use Rattle.pl_cone.specs.Table.{IsLinkKind, walked_by}
-use Rattle.pl_cone.specs.declared.link.Link.{Link}
+use Rattle.pl_cone.specs.declared.linking.Link.{Link}
 use Rattle.pl_cone.specs.declared.taken.Taken.{Taken}
 use Rattle.pl_conflict.specs.Own.{FindAll}
 use Rattle.pl_conflict.specs.Prelinked.{Firm}

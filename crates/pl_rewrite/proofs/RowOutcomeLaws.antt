@@ -10,9 +10,9 @@ use Rattle.pl_cone.specs.Plans as plans
 use Rattle.pl_cone.specs.Skipped.{skip_causes, skip_of}
 use Rattle.pl_cone.specs.Table.{IsPlan, IsRunTable, is_candidate_row, planned_by}
 use Rattle.pl_cone.specs.Taken.{entry_in, files_in, is_library_entry, marked_by, object_by, taken_of}
-use Rattle.pl_cone.specs.declared.asked.Asked.{Asked}
-use Rattle.pl_cone.specs.declared.link.Link.{Link}
-use Rattle.pl_cone.specs.declared.plan.RowPlan.{RowPlan}
+use Rattle.pl_cone.specs.declared.planning.Asked.{Asked}
+use Rattle.pl_cone.specs.declared.linking.Link.{Link}
+use Rattle.pl_cone.specs.declared.planning.RowPlan.{RowPlan}
 use Rattle.pl_cone.specs.declared.skip.Skip.{Skip}
 use Rattle.pl_cone.specs.declared.table.RunTable.{RunTable}
 use Rattle.pl_cone.specs.declared.taken.Taken.{Taken}
@@ -42,10 +42,10 @@ use Rattle.pl_rewrite.specs.Reports as reports
 use Rattle.pl_rewrite.specs.Rows.{IsFirmAt, IsWalkRow, firm_by, firms_of, is_library_row, number_at, of_firm}
 use Rattle.pl_rewrite.specs.declared.finishing.Made.{Made}
 use Rattle.pl_rewrite.specs.declared.numbers.Numbered.{Numbered}
-use Rattle.pl_rewrite.specs.declared.outcome.NewLibrary.{NewLibrary}
-use Rattle.pl_rewrite.specs.declared.outcome.NewProgram.{NewProgram}
-use Rattle.pl_rewrite.specs.declared.outcome.RowOutcome.{RowOutcome}
-use Rattle.pl_rewrite.specs.declared.outcome.RowOutcome.TheVariants as outcomes
+use Rattle.pl_rewrite.specs.declared.outcomes.NewLibrary.{NewLibrary}
+use Rattle.pl_rewrite.specs.declared.outcomes.NewProgram.{NewProgram}
+use Rattle.pl_rewrite.specs.declared.outcomes.RowOutcome.{RowOutcome}
+use Rattle.pl_rewrite.specs.declared.outcomes.RowOutcome.TheVariants as outcomes
 use Rattle.pl_rewrite.specs.declared.report.RowState.{RowState}
 use Rattle.pl_rewrite.specs.declared.report.RowState.TheVariants as states
 use Rattle.pl_rewrite.proofs.CandidateRowLaws.{table_with, walk_row}

@@ -9,7 +9,7 @@ use Rattle.pl_cone.specs.Links.{IsLinkOf}
 use Rattle.pl_cone.specs.Table.{IsLinkKind, walked_by}
 use Rattle.pl_cone.specs.Candidates as candidates
 use Rattle.pl_cone.specs.Taken.{is_library_entry, object_by}
-use Rattle.pl_cone.specs.declared.link.Link.{Link}
+use Rattle.pl_cone.specs.declared.linking.Link.{Link}
 use Rattle.pl_cone.specs.declared.taken.Taken.{Taken}
 use Rattle.pl_conflict.specs.Own.{FindAll, own_words}
 use Rattle.pl_conflict.specs.Prelinked.{Firm, objects_of, slots_of}
@@ -27,7 +27,7 @@ use Rattle.pl_rewrite.specs.Held.{AreHeld}
 use Rattle.pl_rewrite.specs.Rows.{IsFirmAt, IsWalkRow, firm_by, firms_of, is_library_row, places_of, walk_of}
 use Rattle.pl_rewrite.specs.RowWords.{AreHeldAt, AreOfRow, FindsRow, IsLinkAt, AreRowWordsAt, AreRowWordsBy, RowWordsTo, is_asked, is_needed, is_set, own_words_at}
 use Rattle.pl_rewrite.specs.Sources.{AreSources}
-use Rattle.pl_rewrite.specs.declared.held.HeldWord.{HeldWord}
+use Rattle.pl_rewrite.specs.declared.row_words.HeldWord.{HeldWord}
 use Rattle.pl_rewrite.specs.declared.numbers.Numbered.{Numbered}
 use Rattle.pl_rewrite.specs.declared.row_words.Needed.{Needed}
 use Rattle.pl_rewrite.specs.declared.row_words.RowWords.{RowWords}

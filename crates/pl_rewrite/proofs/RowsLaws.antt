@@ -36,7 +36,7 @@ use Rattle.pl_value.proofs.MeaningLaws.{each_zip}
 use Rattle.pl_rewrite.specs.RemainingRows.{AddsMember, AddsNear, AddsRows, AreAllTold, AreNear, AreTold, HasValueAt, CanListRows, IsQuietAt, IsRowBy, RefusesMember, RefusesOne, TellsHeldOf, all_given, given_in, indexes, is_near_word, is_put, meaning_in, told_at, told_of}
 use Rattle.pl_rewrite.specs.Ranges.{ranges_of}
 use Rattle.pl_rewrite.specs.declared.conflict.RemainingRows.{RemainingRows}
-use Rattle.pl_rewrite.specs.declared.held.HeldWord.{HeldWord}
+use Rattle.pl_rewrite.specs.declared.row_words.HeldWord.{HeldWord}
 use Rattle.pl_rewrite.specs.declared.row_words.RowWords.{RowWords}
 
 abbrev value : WalkLinking → Row → Result Meaning LinkFault

@@ -11,7 +11,7 @@ use Rattle.pl_base.specs.Answers.{because}
 use Rattle.pl_base.proofs.AnswerLaws.{because_ok, ok_same, unless_ok}
 use Rattle.pl_cone.specs.Plans.{stamp_after}
 use Rattle.pl_cone.specs.Plans.{slot_of}
-use Rattle.pl_cone.specs.declared.stamps.TheConstants.{LAST_STAMP}
+use Rattle.pl_cone.specs.declared.currency.TheConstants.{LAST_STAMP}
 use Rattle.pl_cone.specs.declared.skip.ConeFault.TheVariants.{StampsSpent}
 use Rattle.pl_conflict.specs.Format.{format, mark_in, mark_of}
 use Rattle.pl_conflict.proofs.FormatLaws.{format_kept}
@@ -22,7 +22,7 @@ use Rattle.pl_cone.specs.Fits.{fit_in}
 use Rattle.pl_cone.specs.Plans.{greatest, greatest_of, is_candidate, is_current, is_stale, stale, stamp_for}
 use Rattle.pl_cone.specs.Skipped.{skip_causes}
 use Rattle.pl_cone.specs.Faulted.{of_cone}
-use Rattle.pl_cone.specs.declared.asked.Asked.{Asked}
+use Rattle.pl_cone.specs.declared.planning.Asked.{Asked}
 use Rattle.pl_cone.specs.Plans.{RunPlan}
 use Rattle.pl_scope.specs.Members.{has}
 use Rattle.pl_scope.proofs.NameLaws.{same_name}

@@ -9,9 +9,9 @@ use Rattle.std.proofs.lemmas.Option.{none-some, slice_get-map}
 use Rattle.pl_cone.specs.Plans as plans
 use Rattle.pl_cone.specs.Table.{IsPlan, IsRunTable, is_candidate_row}
 use Rattle.pl_cone.specs.Taken.{files_in}
-use Rattle.pl_cone.specs.declared.asked.Asked.{Asked}
-use Rattle.pl_cone.specs.declared.link.Link.{Link}
-use Rattle.pl_cone.specs.declared.plan.RowPlan.{RowPlan}
+use Rattle.pl_cone.specs.declared.planning.Asked.{Asked}
+use Rattle.pl_cone.specs.declared.linking.Link.{Link}
+use Rattle.pl_cone.specs.declared.planning.RowPlan.{RowPlan}
 use Rattle.pl_cone.specs.declared.skip.Skip.{Skip}
 use Rattle.pl_cone.specs.declared.taken.Taken.{Taken}
 use Rattle.pl_cone.proofs.NeedLaws.{slice_get_at}

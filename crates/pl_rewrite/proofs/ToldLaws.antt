@@ -33,7 +33,7 @@ use Rattle.pl_value.specs.declared.word.Word.{Word}
 use Rattle.pl_value.specs.declared.word.Word.TheVariants.{Put, Copy, Nothing}
 use Rattle.pl_rewrite.specs.Held.{AreHeld, IsHeldIn, IsWordIn}
 use Rattle.pl_rewrite.specs.RemainingRows.{AreTold, HasValueAt, IsHeldOf, IsQuietAt, TellsHeldOf, indexes, is_put, meaning_in}
-use Rattle.pl_rewrite.specs.declared.held.HeldWord.{HeldWord}
+use Rattle.pl_rewrite.specs.declared.row_words.HeldWord.{HeldWord}
 use Rattle.pl_rewrite.proofs.QuietLaws.{IsOwnForm, one_word_held, held_by, put_wide, quiet_of}
 
 -- a library of a walk, its own walk at its places, and its file at its slot

@@ -45,7 +45,8 @@ use Rattle.law_sound.specs.Rule as sound
 use Rattle.law_sound.specs.Rule.{Mark, Member, mark_at, member_at, original_at}
 use Rattle.pl_rewrite.specs.Rows.{IsFileMeant, IsFirmAt, IsNumbered, IsWalkRow, firm_by, firms_of, number_at, unless_none, walk_of}
 use Rattle.pl_rewrite.specs.Sources.{AreSources, AreVersionsOf, BeginsIn, members, versioned}
-use Rattle.pl_rewrite.specs.Verify.{are_marked, is_marked_at, prelinked_in, slot_borne, slot_by, stamp_borne, stamp_by}
+use Rattle.pl_cone.specs.Currency.{old_stamp, stamp_by}
+use Rattle.pl_rewrite.specs.Verify.{are_marked, is_marked_at, prelinked_in, slot_borne, slot_by}
 use Rattle.pl_rewrite.specs.declared.numbers.Numbered.{Numbered}
 use Rattle.pl_rewrite.proofs.CandidateRowLaws.{IsItself, names_are}
 use Rattle.pl_rewrite.proofs.FirmLaws.{version_is}
@@ -266,7 +267,7 @@ no_version ms i m at bad = by_firms (all_firm ms) refl
         let off : are_set rs ≡ false = not_set rs (one_bad ms rs i m (firms_zip ms rs is) at bad) in
         ap of_firm is ∙ ap (λ (b : Bool). when b (stored (file_of rs))) off
 
-module _ (n : Numbered) (region : Range) (taken : AreTaken region n.files.now) (places : n.places.now ≡ map slot_borne n.files.now) (stamps : n.stamps.now ≡ map stamp_borne n.files.now) where
+module _ (n : Numbered) (region : Range) (taken : AreTaken region n.files.now) (places : n.places.now ≡ map slot_borne n.files.now) (stamps : n.stamps.now ≡ map old_stamp n.files.now) where
   -- the member of a name as the files have it
   abbrev member : List ℕ → Member
   member k = member_at (format skip_causes) k (files_in n.files.now k)
@@ -277,7 +278,7 @@ module _ (n : Numbered) (region : Range) (taken : AreTaken region n.files.now) (
 
   stamp_is : (k : ℕ) (t : Taken) (m : Marked) → slice_get n.files.now k ≡ Some t → marked_by t.entry ≡ Some m → number_at n.stamps.now k ≡ m.stamp
   stamp_is k t m at is =
-      ap (λ (ps : List ℕ). number_at ps k) stamps ∙ (ap unless_none (slice_get-map stamp_borne n.files.now k ∙ ap (option_map stamp_borne) at) ∙ ap stamp_by is)
+      ap (λ (ps : List ℕ). number_at ps k) stamps ∙ (ap unless_none (slice_get-map old_stamp n.files.now k ∙ ap (option_map old_stamp) at) ∙ ap stamp_by is)
 
   member_is : (k : ℕ) (r : Firm) → IsFirmAt n k r → is_marked_at n.files.now k ≡ true → (versioned (version_at n k) r).member ≡ member r.member.name
   member_is k r at on =

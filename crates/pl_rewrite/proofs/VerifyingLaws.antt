@@ -8,7 +8,7 @@ use Rattle.pl_cone.specs.Links.{IsLinkOf}
 use Rattle.pl_cone.specs.Skipped.{skip_causes}
 use Rattle.pl_cone.specs.Table.{IsLinkKind, walked_by}
 use Rattle.pl_cone.specs.Taken.{AreTaken, entry_in, files_in, marked_by, taken_of}
-use Rattle.pl_cone.specs.declared.link.Link.{Link}
+use Rattle.pl_cone.specs.declared.linking.Link.{Link}
 use Rattle.pl_cone.specs.declared.taken.Taken.{Taken}
 use Rattle.pl_cone.proofs.NamedFileLaws.{found}
 use Rattle.pl_cone.proofs.RowLaws.{IsRow, found_at, row_is}
@@ -30,7 +30,8 @@ use Rattle.law_sound.specs.Rule as sound
 use Rattle.pl_rewrite.specs.Rows.{IsNumbered, IsWalkRow, is_library_row, of_firm, walk_of}
 use Rattle.pl_rewrite.specs.RowWords.{IsLinkAt}
 use Rattle.pl_rewrite.specs.Sources.{AreSources}
-use Rattle.pl_rewrite.specs.Verify.{IsMeantOrNone, are_marked, is_same, is_verified, prelinked_in, slot_borne, stamp_borne, verified_original}
+use Rattle.pl_cone.specs.Currency.{old_stamp}
+use Rattle.pl_rewrite.specs.Verify.{IsMeantOrNone, are_marked, is_same, is_verified, prelinked_in, slot_borne, verified_original}
 use Rattle.pl_rewrite.specs.declared.numbers.Numbered.{Numbered}
 use Rattle.pl_rewrite.proofs.FirmLaws.{own_all}
 use Rattle.pl_rewrite.proofs.FirmRowLaws.{firms_named, named_of}
@@ -80,7 +81,7 @@ program_link_at n row own l made walk other same by found none =
 
 -- ---- the file of a row, by what its walk is
 
-pub meant_in : (n : Numbered) (region : Range) (taken : AreTaken region n.files.now) (places : n.places.now ≡ map slot_borne n.files.now) (stamps : n.stamps.now ≡ map stamp_borne n.files.now) (row : ℕ) (x : Taken) (m : Marked) (version : Version) (file : Option (List ℕ)) → IsNumbered n
+pub meant_in : (n : Numbered) (region : Range) (taken : AreTaken region n.files.now) (places : n.places.now ≡ map slot_borne n.files.now) (stamps : n.stamps.now ≡ map old_stamp n.files.now) (row : ℕ) (x : Taken) (m : Marked) (version : Version) (file : Option (List ℕ)) → IsNumbered n
     → are_marked n.files.now (walk_of n row) ≡ true → slice_get n.files.now row ≡ Some x → marked_by x.entry ≡ Some m → m.version ≡ version → IsMeantOrNone n row version file → file ≡ prelinked_in (files_in n.files.now) x.name
 meant_in n region taken places stamps row x m version file numbered all at mark same meant = by_walk (walk_of n row) refl
   where

@@ -3,7 +3,7 @@ use Rattle.std.specs.Prelude.{◌≡◌, ◌<◌, ℕ, false, List, [], ◌∷�
 use Rattle.std.specs.Option.{option_map}
 use Rattle.pl_cone.specs.Links.{IsLinking}
 use Rattle.pl_cone.specs.Table.{walked_by}
-use Rattle.pl_cone.specs.declared.link.Link.{Link}
+use Rattle.pl_cone.specs.declared.linking.Link.{Link}
 use Rattle.pl_cone.specs.declared.values.WalkLinking.{WalkLinking}
 use Rattle.pl_conflict.specs.Prelinked as firm
 use Rattle.pl_conflict.specs.Prelinked.{Firm, objects_of, slots_of}
@@ -13,7 +13,7 @@ use Rattle.pl_form.specs.Files.{marked_in}
 use Rattle.pl_form.specs.declared.file.Marked.{Marked}
 use Rattle.pl_rewrite.specs.Fills.{conflicts_with, fills_of, form_of, memory_of}
 use Rattle.pl_rewrite.specs.declared.numbers.Numbered.{Numbered}
-use Rattle.pl_rewrite.specs.declared.outcome.NewProgram.{NewProgram}
+use Rattle.pl_rewrite.specs.declared.outcomes.NewProgram.{NewProgram}
 use Rattle.pl_rewrite.specs.declared.program.Contents.{Contents}
 use Rattle.pl_rewrite.specs.declared.program.Work.{Work}
 use Rattle.pl_rewrite.specs.declared.row_words.Needed.{Needed}

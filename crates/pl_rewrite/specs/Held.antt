@@ -7,7 +7,7 @@ use Rattle.pl_image.specs.Loads.{loaded_at}
 use Rattle.pl_image.specs.declared.loaded_object.LoadedObject.{LoadedObject}
 use Rattle.pl_object.specs.declared.object.Object.{Object}
 use Rattle.pl_object.specs.declared.reloc.Reloc.{Reloc}
-use Rattle.pl_rewrite.specs.declared.held.HeldWord.{HeldWord}
+use Rattle.pl_rewrite.specs.declared.row_words.HeldWord.{HeldWord}
 
 -- the own word of a relocation; or, where it has none, the word that the original holds
 abbrev pub IsWordIn : List LoadedObject → Reloc → Option ℕ → ℕ → Type 0

@@ -9,7 +9,7 @@ use Rattle.pl_form.specs.declared.file.Marked.{Marked}
 use Rattle.pl_journal.specs.Meaning.{applied, mixed}
 use Rattle.pl_cone.specs.Plans.{planned}
 use Rattle.pl_cone.specs.Skipped.{skip_causes}
-use Rattle.pl_cone.specs.declared.asked.Asked.{Asked}
+use Rattle.pl_cone.specs.declared.planning.Asked.{Asked}
 use Rattle.pl_cone.specs.Plans.{RunPlan}
 use Rattle.pl_scope.specs.Members.{has}
 use Rattle.law_sound.specs.History as sound

@@ -5,7 +5,7 @@ use Rattle.pl_elf.specs.declared.range.Range.{Range}
 use Rattle.pl_form.specs.Files.{original_in}
 use Rattle.pl_cone.specs.Plans.{planned}
 use Rattle.pl_cone.specs.Skipped.{skip_causes}
-use Rattle.pl_cone.specs.declared.asked.Asked.{Asked}
+use Rattle.pl_cone.specs.declared.planning.Asked.{Asked}
 use Rattle.pl_cone.specs.Plans.{RunPlan}
 use Rattle.pl_scope.specs.Members.{has}
 use Rattle.law_sound.specs.Rule.{Files}

@@ -30,9 +30,9 @@ pub use Rattle.pl_cone.specs.Plans
 pub use Rattle.pl_cone.specs.Skipped
 pub use Rattle.pl_cone.specs.Skips
 pub use Rattle.pl_cone.specs.Taken
-pub use Rattle.pl_cone.specs.declared.asked.Asked
+pub use Rattle.pl_cone.specs.declared.planning.Asked
 pub use Rattle.pl_cone.specs.declared.fault.PlanningFault
 pub use Rattle.pl_cone.specs.declared.skip.ConeFault
 pub use Rattle.pl_cone.specs.declared.skip.Skip
-pub use Rattle.pl_cone.specs.declared.stamps.TheConstants as LastStamps
+pub use Rattle.pl_cone.specs.declared.currency.TheConstants as LastStamps
 pub use Rattle.pl_cone.specs.declared.taken.Taken as TakenFile

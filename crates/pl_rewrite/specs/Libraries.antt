@@ -12,7 +12,7 @@ use Rattle.pl_rewrite.specs.Forms.{HasFormWith, file_with}
 use Rattle.pl_rewrite.specs.Rows.{IsFirmAt, firms_of}
 use Rattle.pl_rewrite.specs.RowWords.{own_words_at}
 use Rattle.pl_rewrite.specs.declared.numbers.Numbered.{Numbered}
-use Rattle.pl_rewrite.specs.declared.outcome.NewLibrary.{NewLibrary}
+use Rattle.pl_rewrite.specs.declared.outcomes.NewLibrary.{NewLibrary}
 use Rattle.sha2.specs.Sha256.{sha256}
 
 -- what the file of a row's library is made of

@@ -5,8 +5,8 @@ use Rattle.pl_cone.specs.Plans as plans
 use Rattle.pl_cone.specs.Plans.{RunPlan, planned}
 use Rattle.pl_cone.specs.Table.{IsPlan, IsRunTable, planned_by, names_where}
 use Rattle.pl_cone.specs.Taken.{files_in, is_library_entry, marked_by, names_of}
-use Rattle.pl_cone.specs.declared.asked.Asked.{Asked}
-use Rattle.pl_cone.specs.declared.plan.RowPlan.{RowPlan}
+use Rattle.pl_cone.specs.declared.planning.Asked.{Asked}
+use Rattle.pl_cone.specs.declared.planning.RowPlan.{RowPlan}
 use Rattle.pl_cone.specs.declared.skip.Skip.{Skip}
 use Rattle.pl_cone.specs.declared.skip.Skip.TheVariants as skips
 use Rattle.pl_cone.specs.declared.table.RunTable.{RunTable}
@@ -28,10 +28,10 @@ use Rattle.pl_rewrite.specs.Contents.{IsNewProgram, IsProgramRow}
 use Rattle.pl_rewrite.specs.declared.finishing.MadeFiles.{MadeFiles}
 use Rattle.pl_rewrite.specs.declared.finishing.Made.{Made}
 use Rattle.pl_rewrite.specs.declared.numbers.Numbered.{Numbered}
-use Rattle.pl_rewrite.specs.declared.outcome.NewLibrary.{NewLibrary}
-use Rattle.pl_rewrite.specs.declared.outcome.NewProgram.{NewProgram}
-use Rattle.pl_rewrite.specs.declared.outcome.RowOutcome.{RowOutcome}
-use Rattle.pl_rewrite.specs.declared.outcome.RowOutcome.TheVariants as outcomes
+use Rattle.pl_rewrite.specs.declared.outcomes.NewLibrary.{NewLibrary}
+use Rattle.pl_rewrite.specs.declared.outcomes.NewProgram.{NewProgram}
+use Rattle.pl_rewrite.specs.declared.outcomes.RowOutcome.{RowOutcome}
+use Rattle.pl_rewrite.specs.declared.outcomes.RowOutcome.TheVariants as outcomes
 use Rattle.pl_rewrite.specs.declared.program.Work.{Work}
 use Rattle.pl_rewrite.specs.declared.report.RowState.{RowState}
 use Rattle.pl_rewrite.specs.declared.report.RowState.TheVariants as states
@@ -229,10 +229,6 @@ HasWordsIf n stale row words = is_stale_library n stale row ≡ true → words �
 pub record HaveWords (n : Numbered) (stale : List Bool) (all : List RowWords) : Type 0 where
   pub count : length all ≡ length n.files.now
   pub each : (row : ℕ) (s : RowWords) → slice_get all row ≡ Some s → HasWordsIf n stale row s.words
-
-abbrev pub joined : Option (Option RowOutcome) → Option RowOutcome
-joined None = None
-joined (Some outcome) = outcome
 
 -- what was made of a file; or, where nothing was, that it stays or gets its original
 abbrev pub IsOutcomeFor : Taken → Option Skip → Option RowOutcome → RowOutcome → Type 0

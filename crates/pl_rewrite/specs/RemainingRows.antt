@@ -19,7 +19,7 @@ use Rattle.pl_object.specs.declared.object.Object.{Object}
 use Rattle.pl_object.specs.declared.reloc.Reloc.{Reloc}
 use Rattle.pl_rewrite.specs.Ranges.{is_near, ranges_of}
 use Rattle.pl_rewrite.specs.declared.conflict.RemainingRows.{RemainingRows}
-use Rattle.pl_rewrite.specs.declared.held.HeldWord.{HeldWord}
+use Rattle.pl_rewrite.specs.declared.row_words.HeldWord.{HeldWord}
 use Rattle.pl_rewrite.specs.declared.row_words.RowWords.{RowWords}
 use Rattle.pl_scope.specs.declared.found.Found.{Found}
 use Rattle.pl_value.specs.Meanings.{is_memory, meaning, meanings, row}

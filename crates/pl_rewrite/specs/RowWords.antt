@@ -2,11 +2,11 @@
 use Rattle.std.specs.Prelude.{◌≡◌, ◌<◌, ℕ, Bool, true, false, ◌||◌, List, [], length, slice_get, Option, Some, None}
 use Rattle.std.specs.List.{All}
 use Rattle.pl_cone.specs.Table.{IsLinkBy}
-use Rattle.pl_cone.specs.declared.link.Link.{Link}
+use Rattle.pl_cone.specs.declared.linking.Link.{Link}
 use Rattle.pl_conflict.specs.Own.{FindAll, own_words}
 use Rattle.pl_conflict.specs.Prelinked.{Firm, objects_of, slots_of}
 use Rattle.pl_rewrite.specs.Held.{AreHeld}
-use Rattle.pl_rewrite.specs.declared.held.HeldWord.{HeldWord}
+use Rattle.pl_rewrite.specs.declared.row_words.HeldWord.{HeldWord}
 use Rattle.pl_rewrite.specs.declared.numbers.Numbered.{Numbered}
 use Rattle.pl_rewrite.specs.declared.row_words.Needed.{Needed}
 use Rattle.pl_rewrite.specs.declared.row_words.RowWords.{RowWords}

@@ -5,9 +5,10 @@ use Rattle.std.specs.Str.{bytes_eq}
 use Rattle.std.specs.Option.{option_and_then}
 use Rattle.pl_conflict.specs.Format.{format}
 use Rattle.pl_form.specs.declared.file.Marked.{Marked}
+use Rattle.pl_cone.specs.Currency.{old_stamp}
 use Rattle.pl_cone.specs.Skipped.{skip_causes}
 use Rattle.pl_cone.specs.Taken.{files_in, marked_by}
-use Rattle.pl_cone.specs.declared.link.Link.{Link}
+use Rattle.pl_cone.specs.declared.linking.Link.{Link}
 use Rattle.pl_cone.specs.declared.taken.Taken.{Taken}
 use Rattle.law_sound.specs.Rule as sound
 use Rattle.law_sound.specs.Rule.{Files, original_at}
@@ -38,13 +39,6 @@ slot_by (Some m) = m.slot
 abbrev pub slot_borne : Taken → ℕ
 slot_borne t = slot_by (marked_by t.entry)
 
-abbrev pub stamp_by : Option Marked → ℕ
-stamp_by None = 0
-stamp_by (Some m) = m.stamp
-
-abbrev pub stamp_borne : Taken → ℕ
-stamp_borne t = stamp_by (marked_by t.entry)
-
 abbrev pub is_marked_at : List Taken → ℕ → Bool
 is_marked_at ts row = is_some (option_and_then (λ t. marked_by t.entry) (slice_get ts row))
 
@@ -54,7 +48,7 @@ are_marked ts rows = list_all (is_marked_at ts) rows
 -- the numbers are those that the files bear
 pub record AreBorne (n : Numbered) : Type 0 where
   pub places : n.places.now ≡ map slot_borne n.files.now
-  pub stamps : n.stamps.now ≡ map stamp_borne n.files.now
+  pub stamps : n.stamps.now ≡ map old_stamp n.files.now
 
 -- ---- the file that is meant of a row
 

@@ -1,6 +1,6 @@
-// The conflict rows of a program, and the words that its copies read.
+// What the relocations of a program give, its conflict rows, and the words that its copies read.
 ghost use Rattle.std.specs.Prelude.{◌≡◌, ◌<◌, filter, true, length, IfErr, IfOk, OnOk};
-ghost use Rattle.std.specs.List.{All};
+ghost use Rattle.std.specs.List.{All, AllZip};
 ghost use Rattle.std.specs.List.Sorted.{IsNonDecreasingBy, IsPermutation};
 ghost use Rattle.std.specs.Str.{bytes_eq};
 ghost use Rattle.pl_base.specs.Bytes.{bytes64};
@@ -13,9 +13,9 @@ ghost use Rattle.pl_value.specs.Targets.{base_of};
 ghost use Rattle.pl_value.specs.Values.{reference};
 ghost use Rattle.pl_rewrite.specs.RemainingRows as spec;
 
-use crate::held::HeldWord;
 use crate::ranges::Ranges;
-use crate::row_words::RowWords;
+use crate::row_words::{HeldWord, RowWords};
+use pl_base::Rows;
 use pl_cone::{WalkLinking, sought};
 use pl_lists::ConflictRow;
 use pl_object::Reloc;
@@ -43,7 +43,7 @@ fn start_of(places: &Places, member: u32, reloc: &Reloc) -> u64
 
 /// The place of a relocation of a member, and what it gives, by what it finds; or its link refusal.
 #[tactic(auto, unfolding(pl_value::specs::Meanings::meaning))]
-pub fn meaning_with(
+fn meaning_with(
     linking: &WalkLinking<'_, '_>,
     member: u32,
     reloc: &Reloc,
@@ -243,4 +243,41 @@ pub fn remaining_rows(
     }
     sort_rows(&mut found_rows.rows);
     Ok(found_rows)
+}
+
+/// What relocations of the first member give, in their order, by what each finds; or the first that has no value.
+fn given_by(
+    alloc: Global,
+    linking: &WalkLinking<'_, '_>,
+    relocs: &[Reloc],
+    found: &[Option<Found>],
+) -> Result<Rows<Meaning>, OrdinaryFault>
+    requires linking { IsLinking linking.now }
+    requires some { 0 < length linking.now.places.now }
+    requires references { All (λ r. IsSymbol (objects_of linking.now) 0 r.symbol) relocs.now }
+    requires found { AllZip (λ r f. IsSought (objects_of linking.now) (reference 0 r) f) relocs.now
+        found.now }
+    ensures { spec.GivesOf linking.now relocs.now result }
+{
+    let mut all = Rows::from_vec(Vec::with_capacity(alloc, relocs.len())?);
+    for index in 0..relocs.len() {
+        let meaning = meaning_with(linking, 0, &relocs[index], found[index])?;
+        all.push(meaning)?;
+    }
+    Ok(all)
+}
+
+/// What the relocations of the program give, which is the first of the walk.
+pub fn own_meanings(
+    alloc: Global,
+    linking: &WalkLinking<'_, '_>,
+    found: &[Option<Found>],
+) -> Result<Rows<Meaning>, OrdinaryFault>
+    requires linking { IsLinking linking.now }
+    requires some { 0 < length linking.now.scope.now }
+    requires found { spec.FindFirst linking.now found.now }
+    ensures { spec.GivesFirst linking.now result }
+{
+    let object = linking.scope.object(0);
+    given_by(alloc, linking, object.relocations.as_slice(), found)
 }

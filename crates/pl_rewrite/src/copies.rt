@@ -6,7 +6,6 @@ ghost use Rattle.pl_form.specs.Words as form;
 ghost use Rattle.pl_image.specs.Image.{AreLoaded};
 ghost use Rattle.pl_rewrite.specs.Copies as spec;
 ghost use Rattle.pl_rewrite.specs.Rows as rows;
-ghost use Rattle.pl_value.specs.Linked as linked;
 
 use crate::numbers::Numbered;
 use pl_base::{Rows, push64};
@@ -134,22 +133,6 @@ fn standing_at(alloc: Global, filling: &Filling<'_>, reloc: &Reloc) -> Result<Ve
     read_loaded(alloc, loaded, reloc.address, reloc.width)
 }
 
-/// What is copied of a member's memory, with the words that stand there.
-fn copied(
-    alloc: Global,
-    filling: &Filling<'_>,
-    member: u32,
-    from: u64,
-    bytes: u64,
-) -> Result<Vec<u8>, AllocError>
-    requires filling { spec.IsFilling filling.now }
-    requires member { member < length filling.now.walk.now }
-    ensures { IfOk result (λ v. spec.AreCopied filling.now member from bytes v.items) }
-{
-    let loaded = one_of(filling.loaded, member);
-    filling.near.read(alloc, loaded, from, bytes)
-}
-
 /// The bytes of a word, the lowest first.
 fn word_bytes(alloc: Global, word: u64) -> Result<Vec<u8>, AllocError>
     ensures { IfOk result (λ v. v.items ≡ bytes64 word) }
@@ -173,7 +156,8 @@ fn copied_over(
     ensures { IfOk result (λ v. spec.FillsCopy filling.now reloc.now member from bytes v.items) }
 {
     let standing = standing_at(alloc, filling, reloc)?;
-    let first = copied(alloc, filling, member, from, bytes)?;
+    let loaded = one_of(filling.loaded, member);
+    let first = filling.near.read(alloc, loaded, from, bytes)?;
     let before = standing.as_slice();
     let over = first.as_slice();
     let all = put_first(alloc, before, over)?;
@@ -202,25 +186,6 @@ fn bytes_at(
     }
 }
 
-/// The fill of a relocation of the program.
-fn fill_at(
-    alloc: Global,
-    filling: &Filling<'_>,
-    reloc: &Reloc,
-    meaning: &Meaning,
-) -> Result<Fill, AllocError>
-    requires filling { spec.IsFilling filling.now }
-    requires member { spec.IsFillOf filling.now.walk.now meaning.now.word }
-    ensures { IfOk result (spec.IsFillAt filling.now reloc.now meaning.now) }
-{
-    let bytes = bytes_at(alloc, filling, reloc, meaning)?;
-    let rows = Rows::from_vec(bytes);
-    Ok(Fill {
-        address: reloc.address,
-        bytes: rows,
-    })
-}
-
 /// Whether a relocation has a place: NONE has none.
 fn has_place(reloc: &Reloc) -> bool
     ensures { result ≡ form.has_place reloc.now }
@@ -245,8 +210,12 @@ fn push_fill(
     if !placed {
         return Ok(());
     }
-    let fill = fill_at(alloc, filling, reloc, meaning)?;
-    fills.push(fill)?;
+    let bytes = bytes_at(alloc, filling, reloc, meaning)?;
+    let rows = Rows::from_vec(bytes);
+    fills.push(Fill {
+        address: reloc.address,
+        bytes: rows,
+    })?;
     Ok(())
 }
 
@@ -269,15 +238,6 @@ fn fills_of(
     Ok(fills)
 }
 
-/// The words that meanings give.
-fn word_patches(alloc: Global, meanings: &[Meaning]) -> Result<Patches, AllocError>
-    ensures { IfOk result (λ p. p ≡ linked.words meanings.now) }
-{
-    let patches = words(alloc, meanings)?;
-    let indexed = Patches::new(alloc, patches)?;
-    Ok(indexed)
-}
-
 /// The bytes at the places of a program, as its scope makes them: a fill for each of its own relocations that is not NONE, in their order. `walk` has the rows of its walk, it first, `near` the words of the walk in the ranges from which it copies, and `meanings` what its relocations give. The time grows as `n log n`, and as what is copied.
 pub fn program_fills(
     alloc: Global,
@@ -294,13 +254,14 @@ pub fn program_fills(
     ensures { IfOk result (λ v. spec.AreFillsNear numbered.now walk.now near.now relocs.now
         meanings.now v.items) }
 {
-    let patches = word_patches(alloc, near)?;
+    let patches = words(alloc, near)?;
+    let indexed = Patches::new(alloc, patches)?;
     let loaded = members_loaded(alloc, numbered, walk)?;
     let filling = Filling {
         numbered,
         walk,
         loaded: &loaded,
-        near: &patches,
+        near: &indexed,
     };
     let fills = fills_of(alloc, &filling, relocs, meanings)?;
     Ok(fills)

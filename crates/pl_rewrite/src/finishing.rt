@@ -1,14 +1,13 @@
 // What is made of files by their outcomes; each file is let go in its turn.
-ghost use Rattle.std.specs.Prelude.{◌≡◌, ◌++◌, [], ◌||◌, IfOk, OnOk, Some, if◌then◌else◌};
-ghost use Rattle.std.specs.List.{All, cons_option};
+ghost use Rattle.std.specs.Prelude.{◌≡◌, ◌||◌, IfOk, Some, if◌then◌else◌};
+ghost use Rattle.std.specs.List.{All};
 ghost use Rattle.pl_cone.specs.Taken.{HasItsEntry, files_in, names_of};
 ghost use Rattle.pl_rewrite.specs.Changes as changes;
 ghost use Rattle.pl_rewrite.specs.Outcomes as told;
 ghost use Rattle.pl_rewrite.specs.Rewriting as spec;
 
 use crate::library::storable_library;
-use crate::outcome::{NewLibrary, NewProgram, RowOutcome};
-use crate::outcomes::too_large;
+use crate::outcomes::{NewLibrary, NewProgram, RowOutcome, too_large};
 use crate::rewriting::Rewritten;
 use crate::{Report, ReportRow, RowState};
 use pl_base::{Rows, Text};
@@ -59,13 +58,6 @@ fn put(alloc: Global, name: &str, old: &[u8], bytes: Vec<u8>) -> Result<Option<C
     }))
 }
 
-/// A copy of bytes.
-fn copy_of(alloc: Global, bytes: &[u8]) -> Result<Vec<u8>, AllocError>
-    ensures { IfOk result (λ v. v.items ≡ bytes.now) }
-{
-    Ok(Vec::from_slice(alloc, bytes)?)
-}
-
 /// The row that gives a file its original; None where it is its own.
 fn put_original(alloc: Global, taken: &Taken) -> Result<Option<Change>, AllocError>
     requires { HasItsEntry taken.now }
@@ -75,7 +67,7 @@ fn put_original(alloc: Global, taken: &Taken) -> Result<Option<Change>, AllocErr
         return Ok(None);
     };
     let own = marked.original.as_slice();
-    let original = copy_of(alloc, own)?;
+    let original = Vec::from_slice(alloc, own)?;
     let name = taken.name.as_str();
     let old = taken.bytes.as_slice();
     put(alloc, name, old, original)
@@ -91,15 +83,6 @@ fn made_original(alloc: Global, taken: &Taken, cause: Skip) -> Result<Made, Allo
         state: RowState::Skipped(cause),
         given: false,
     })
-}
-
-/// A file whose form would be too large.
-fn made_large(alloc: Global, taken: &Taken) -> Result<Made, AllocError>
-    requires { HasItsEntry taken.now }
-    ensures { IfOk result (λ made. made ≡ told.made_original taken.now (told.too_large taken.now)) }
-{
-    let cause = too_large(alloc, taken)?;
-    made_original(alloc, taken, cause)
 }
 
 /// A program that is prelinked anew.
@@ -145,7 +128,10 @@ fn made_library(alloc: Global, taken: &Taken, parts: &NewLibrary) -> Result<Made
     ensures { IfOk result (λ made. made ≡ told.made_library taken.now parts.now) }
 {
     match storable_library(alloc, taken, parts, Version::Two)? {
-        None => Ok(made_large(alloc, taken)?),
+        None => {
+            let cause = too_large(alloc, taken)?;
+            Ok(made_original(alloc, taken, cause)?)
+        }
         Some(file) => Ok(made_file(alloc, taken, parts, file)?),
     }
 }
@@ -168,16 +154,6 @@ fn made_last(alloc: Global, taken: &Taken, outcome: RowOutcome) -> Result<Made, 
     }
 }
 
-/// Adds a row, where there is one.
-fn add_row(rows: &mut Rows<Change>, row: Option<Change>) -> Result<(), AllocError>
-    ensures { OnOk result (rows.new ≡ rows.old ++ cons_option row []) }
-{
-    match row {
-        None => Ok(()),
-        Some(row) => rows.push(row),
-    }
-}
-
 /// The name of a file that is let go.
 fn name_of(taken: Taken) -> Text
     ensures { result ≡ taken.name }
@@ -195,7 +171,7 @@ fn add_made(all: MadeFiles, name: Text, made: Made) -> Result<MadeFiles, AllocEr
         mut states,
         given,
     } = all;
-    add_row(&mut rows, made.change)?;
+    rows.push_some(made.change)?;
     states.push(ReportRow {
         name,
         state: made.state,

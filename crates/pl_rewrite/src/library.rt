@@ -10,7 +10,7 @@ ghost use Rattle.pl_rewrite.specs.RowWords as by_rows;
 use crate::apart::are_set;
 use crate::lists::{digest_at, list_of};
 use crate::numbers::Numbered;
-use crate::outcome::NewLibrary;
+use crate::outcomes::NewLibrary;
 use crate::own_words::OwnWords;
 use pl_cone::Taken;
 use pl_form::{STORED, Version, form_library_with};

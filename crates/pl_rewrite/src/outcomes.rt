@@ -1,6 +1,5 @@
 // What a run makes of each file.
 ghost use Rattle.std.specs.Prelude.{◌≡◌, ◌<◌, IfOk, None, length};
-ghost use Rattle.std.specs.Option.{option_or};
 ghost use Rattle.pl_rewrite.specs.Outcomes as spec;
 ghost use Rattle.pl_rewrite.specs.Digests as told_digests;
 ghost use Rattle.pl_rewrite.specs.Rows as rows;
@@ -8,19 +7,62 @@ ghost use Rattle.pl_rewrite.specs.RowWords as by_rows;
 ghost use Rattle.pl_rewrite.specs.Contents as contents;
 
 use crate::RowState;
-use crate::flags::flag_all;
 use crate::library::new_library;
 use crate::lists::digests_of;
 use crate::numbers::Numbered;
-use crate::outcome::RowOutcome;
 use crate::own_words::OwnWords;
 use crate::program::{Work, program_file};
-use crate::row_words::{Needed, RowWords, words_of_rows};
+use crate::row_words::{Needed, RowWords, flag_all, words_of_rows};
 use pl_base::{Rows, Text};
 use pl_cone::{Link, RowPlan, RunTable, Skip, Taken};
 use pl_form::{Marked, Version};
 use pl_io::NoMemory;
+use pl_lists::ListRow;
 use std::alloc::{AllocError, Global};
+
+/// The prelinked file of a program.
+#[derive(Drop)]
+pub struct NewProgram {
+    pub file: Vec<u8>,
+
+    /// How many conflict rows it has.
+    pub conflicts: u64,
+}
+
+/// What the prelinked file of a library is made of, beside its original.
+#[derive(Drop)]
+pub struct NewLibrary {
+    /// Its slot.
+    pub slot: u64,
+
+    /// Its stamp.
+    pub stamp: u32,
+
+    /// The SHA-256 of its original.
+    pub digest: [u8; 32],
+
+    /// The rows of the other members of its walk.
+    pub list: Rows<ListRow>,
+
+    /// The own word of each of its relocations, in their order; none where the file keeps what its linker wrote.
+    pub words: OwnWords,
+}
+
+/// What a run makes of a file.
+#[derive(Drop)]
+pub enum RowOutcome {
+    /// It stays, and this is reported of it.
+    Unchanged(RowState),
+
+    /// It gets its original, for a cause.
+    Original(Skip),
+
+    /// It is a program that is prelinked anew.
+    Program(NewProgram),
+
+    /// It is a library that is prelinked anew.
+    Library(NewLibrary),
+}
 
 // ---- files that are not made
 
@@ -64,16 +106,6 @@ fn stays(alloc: Global, taken: &Taken) -> Result<RowOutcome, AllocError>
             let cause = too_large(alloc, taken)?;
             Ok(RowOutcome::Original(cause))
         }
-    }
-}
-
-/// What a run makes of a file that is not made anew: it stays, or gets its original.
-fn kept(alloc: Global, taken: &Taken, cause: Option<Skip>) -> Result<RowOutcome, AllocError>
-    ensures { IfOk result (spec.KeepsFile taken.now cause) }
-{
-    match cause {
-        Some(cause) => Ok(RowOutcome::Original(cause)),
-        None => stays(alloc, taken),
     }
 }
 
@@ -245,26 +277,6 @@ fn library_if(
     Ok(Some(outcome))
 }
 
-/// The outcome of a row, if there is one.
-fn joined(outcome: Option<Option<RowOutcome>>) -> Option<RowOutcome>
-    ensures { result ≡ spec.joined outcome }
-{
-    match outcome {
-        Some(outcome) => outcome,
-        None => None,
-    }
-}
-
-/// The first of two outcomes that is there.
-fn either(first: Option<RowOutcome>, second: Option<RowOutcome>) -> Option<RowOutcome>
-    ensures { result ≡ option_or first second }
-{
-    match first {
-        Some(outcome) => Some(outcome),
-        None => second,
-    }
-}
-
 /// What a run makes of the stale libraries, by their rows, and of the stale programs, which is handed in; None of every other row.
 fn with_libraries(
     alloc: Global,
@@ -288,33 +300,11 @@ fn with_libraries(
         let row = all.len();
         let library = library_if(alloc, numbered, digests, stale, row, words)?;
         let next = programs.next();
-        let program = joined(next);
-        let made = either(library, program);
+        let program = next.flatten();
+        let made = library.or(program);
         all.push(made)?;
     }
     Ok(all)
-}
-
-/// What a run makes of the stale programs, by what is told of the rows that they are made of.
-fn programs_of(
-    alloc: Global,
-    numbered: &Numbered<'_>,
-    digests: &[Option<[u8; 32]>],
-    stale: &[bool],
-    row_words: &[RowWords],
-) -> Result<Vec<Option<RowOutcome>>, NoMemory>
-    requires numbered { rows.IsNumbered numbered.now }
-    requires stale { spec.IsStaleColumn numbered.now stale.now }
-    requires digests { told_digests.HaveDigests numbered.now digests.now }
-    requires row_words { spec.AreToldRows numbered.now stale.now row_words.now }
-    ensures { IfOk result (λ v. spec.AreProgramsMade numbered.now stale.now v.items) }
-{
-    let work = Work {
-        numbered: &*numbered,
-        row_words: &*row_words,
-        digests: &*digests,
-    };
-    program_outcomes(alloc, &work, stale)
 }
 
 /// What is told of the rows of the files that are stale, and of the members of their walks.
@@ -354,13 +344,19 @@ fn made_of(
     let row_words = words_told(alloc, numbered, links, stale)?;
     let made = digests_of(alloc, numbered.files, stale)?;
     let digests = made.as_slice();
-    let programs = programs_of(alloc, numbered, digests, stale, row_words.as_slice())?;
+    let told = row_words.as_slice();
+    let work = Work {
+        numbered: &*numbered,
+        row_words: told,
+        digests,
+    };
+    let programs = program_outcomes(alloc, &work, stale)?;
     with_libraries(alloc, numbered, digests, stale, row_words, programs)
 }
 
 // ---- all files
 
-/// What is made of a file: what was made of it, or that it stays or gets its original.
+/// What is made of a file: what was made of it; else it gets its original for a cause, or stays.
 fn outcome_for(
     alloc: Global,
     taken: &Taken,
@@ -371,7 +367,10 @@ fn outcome_for(
 {
     match made {
         Some(outcome) => Ok(outcome),
-        None => kept(alloc, taken, cause),
+        None => match cause {
+            Some(cause) => Ok(RowOutcome::Original(cause)),
+            None => stays(alloc, taken),
+        },
     }
 }
 
@@ -392,7 +391,7 @@ fn all_outcomes(
     for cause in items {
         let row = all.len();
         let next = made.next();
-        let one = joined(next);
+        let one = next.flatten();
         let outcome = outcome_for(alloc, &files[row], cause, one)?;
         all.push(outcome)?;
     }

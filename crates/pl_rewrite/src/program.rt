@@ -6,12 +6,11 @@ ghost use Rattle.pl_rewrite.specs.Contents as contents;
 ghost use Rattle.pl_rewrite.specs.Fills.{AreFirstFills};
 
 use crate::apart::are_set;
-use crate::conflict::{RemainingRows, remaining_rows};
+use crate::conflict::{RemainingRows, own_meanings, remaining_rows};
 use crate::copies::program_fills;
-use crate::given::own_meanings;
 use crate::lists::{digest_at, list_of};
 use crate::numbers::{Numbered, PlacedWalk};
-use crate::outcome::NewProgram;
+use crate::outcomes::NewProgram;
 use crate::row_words::RowWords;
 use pl_cone::{WalkLinking, modules_of};
 use pl_form::{Fill, FormFault, Version, form_program_with};

@@ -32,15 +32,6 @@ fn given_ranges(alloc: Global, meanings: &[Meaning]) -> Result<Vec<Range>, Alloc
         .collect(alloc)
 }
 
-/// Ranges that ascend and do not overlap, with the addresses of these.
-fn rising_ranges(alloc: Global, ranges: &[Range]) -> Result<Vec<Range>, AllocError>
-    ensures { IfOk result (λ v. spec.AreRising ranges.now v.items) }
-{
-    let copy = Vec::from_slice(alloc, ranges)?;
-    let rising = apart(alloc, copy)?;
-    Ok(rising)
-}
-
 /// Whether a word from an address on has an address of a range.
 fn touches(range: &Range, start: u64) -> bool
     ensures { result ≡ spec.touches start range.now }
@@ -82,7 +73,8 @@ impl Ranges {
         ensures { IfOk result (λ r. r ≡ spec.ranges_of meanings.now) }
     {
         let given = given_ranges(alloc, meanings)?;
-        let rising = rising_ranges(alloc, &given)?;
+        let copy = Vec::from_slice(alloc, &given)?;
+        let rising = apart(alloc, copy)?;
         Ok(Ranges { given, rising })
     }
 

@@ -6,8 +6,7 @@ ghost use Rattle.pl_rewrite.specs.Rewriting as spec;
 
 use crate::Report;
 use crate::finishing::finish;
-use crate::outcome::RowOutcome;
-use crate::outcomes::outcomes;
+use crate::outcomes::{RowOutcome, outcomes};
 use pl_base::Rows;
 use pl_cache::Cache;
 use pl_cone::{Asked, PlanningFault, RowPlan, RunTable, Taken, plan_of};

@@ -1,17 +1,31 @@
 // What the relocations of files give, once the slots are known.
 ghost use Rattle.std.specs.Prelude.{◌≡◌, ◌<◌, true, IfOk, length};
+ghost use Rattle.std.specs.List.{All, AllZip};
+ghost use Rattle.pl_image.specs.Image.{AreLoaded};
+ghost use Rattle.pl_cone.specs.Table.{AreBelow};
+ghost use Rattle.pl_rewrite.specs.Flags as flags_by;
+ghost use Rattle.pl_rewrite.specs.Held as held_by;
 ghost use Rattle.pl_rewrite.specs.Rows as spec;
 ghost use Rattle.pl_rewrite.specs.RowWords as by_rows;
 
-use crate::held::{HeldWord, held_remaining};
 use crate::numbers::Numbered;
 use crate::own_words::OwnWords;
 use pl_base::Rows;
 use pl_cone::Link;
-use pl_conflict::own_words_by;
+use pl_conflict::{own_words_by, word_held};
+use pl_image::{LoadedObject, load_object};
 use pl_io::NoMemory;
+use pl_object::Reloc;
 use pl_scope::Found;
 use std::alloc::{AllocError, Global};
+
+/// A remaining relocation of a library, and the word that the library's prelinked file holds at its place.
+#[derive(Clone, Copy)]
+pub struct HeldWord {
+    /// The relocation's index.
+    pub index: u32,
+    pub word: u64,
+}
 
 /// What the relocations of a file give, once the slots are known. What is not asked for is not there.
 #[derive(Drop)]
@@ -31,6 +45,26 @@ pub struct RowWords {
 pub struct Needed<'t> {
     pub made: &'t [bool],
     pub held: &'t [bool],
+}
+
+/// Flags rows.
+pub fn flag_all(flags: &mut [bool], rows: &[u32])
+    requires { AreBelow (length flags.old) rows.now }
+    ensures { flags_by.FlagsAll rows.now flags.old flags.new }
+{
+    for row in rows {
+        flags[*row as usize] = true;
+    }
+}
+
+/// A flag for each of so many rows, set for these.
+pub fn flags_of(alloc: Global, count: usize, rows: &[u32]) -> Result<Vec<bool>, AllocError>
+    requires { AreBelow count rows.now }
+    ensures { IfOk result (λ v. flags_by.AreFlagsOf count rows.now v.items) }
+{
+    let mut flags = Vec::from_elem(alloc, false, count)?;
+    flag_all(&mut flags, rows);
+    Ok(flags)
 }
 
 /// Nothing is asked.
@@ -61,7 +95,51 @@ fn own_words_at(
     Ok(words)
 }
 
-/// The words that the file of the library of a row holds at the places of its remaining relocations.
+/// The word that the prelinked file of a library holds at the place of a relocation: its own word, or what the original holds.
+fn held_word(
+    alloc: Global,
+    original: &[LoadedObject<'_>],
+    reloc: &Reloc,
+    own: Option<u64>,
+) -> Result<u64, AllocError>
+    requires loaded { AreLoaded original.now }
+    requires one { 0 < length original.now }
+    ensures { IfOk result (held_by.IsWordIn original.now reloc.now own) }
+{
+    match own {
+        None => word_held(alloc, original, 0, reloc),
+        Some(word) => Ok(word),
+    }
+}
+
+/// The words that the prelinked file of a library holds at the places of these relocations, in their order.
+fn held_words(
+    alloc: Global,
+    original: &[LoadedObject<'_>],
+    relocs: &[Reloc],
+    words: &[Option<u64>],
+    remaining: &[u32],
+) -> Result<Rows<HeldWord>, AllocError>
+    requires loaded { AreLoaded original.now }
+    requires one { 0 < length original.now }
+    requires words { length words.now ≡ length relocs.now }
+    requires remaining { All (λ i. i < length relocs.now) remaining.now }
+    ensures { IfOk result (AllZip (held_by.IsHeldIn original.now relocs.now words.now)
+        remaining.now) }
+{
+    let mut all = Rows::new(alloc);
+    for index in remaining {
+        let at = *index as usize;
+        let word = held_word(alloc, original, &relocs[at], words[at])?;
+        all.push(HeldWord {
+            index: *index,
+            word,
+        })?;
+    }
+    Ok(all)
+}
+
+/// The words that the prelinked file of the library of a row holds at the places of its remaining relocations, where `words` are its own words. The file need not be there.
 fn held_of(
     alloc: Global,
     numbered: &Numbered<'_>,
@@ -79,7 +157,9 @@ fn held_of(
     let Some(object) = taken.object() else {
         return Ok(Rows::new(alloc));
     };
-    let held = held_remaining(alloc, object, taken.original(), words, remaining)?;
+    let relocs = object.relocations.as_slice();
+    let loaded = load_object(alloc, object, taken.original(), 0)?;
+    let held = held_words(alloc, &[loaded], relocs, words, remaining)?;
     Ok(held)
 }
 

@@ -1,6 +1,7 @@
 // Whether a file is the prelinked file of the originals that are there.
 ghost use Rattle.std.specs.Prelude.{◌≡◌, ◌<◌, [], ◌∷◌, IfOk, is_some, length, map};
 ghost use Rattle.std.specs.Option.{option_map};
+ghost use Rattle.pl_cone.specs.Currency.{old_stamp};
 ghost use Rattle.pl_cone.specs.Taken.{WereTaken, files_in, marked_by};
 ghost use Rattle.pl_rewrite.specs.Contents as contents;
 ghost use Rattle.pl_rewrite.specs.Digests.{HaveDigests};
@@ -9,14 +10,13 @@ ghost use Rattle.pl_rewrite.specs.Rows as rows;
 ghost use Rattle.pl_rewrite.specs.RowWords as by_rows;
 ghost use Rattle.pl_rewrite.specs.Verify as spec;
 
-use crate::flags::flags_of;
 use crate::library::{new_library, storable_library};
 use crate::lists::digests_of;
 use crate::numbers::Numbered;
 use crate::outcomes::held_by_programs;
 use crate::own_words::OwnWords;
 use crate::program::{Work, program_file};
-use crate::row_words::{Needed, RowWords, is_needed, words_of_rows};
+use crate::row_words::{Needed, RowWords, flags_of, is_needed, words_of_rows};
 use pl_base::Rows;
 use pl_cone::{FolderWalks, Link, Taken, WalkScope, index_of, library_link, row_of, walks_of};
 use pl_form::{Marked, Version};
@@ -33,16 +33,6 @@ fn slot_borne(taken: &Taken) -> u64
     }
 }
 
-/// The stamp that it bears.
-fn stamp_borne(taken: &Taken) -> u32
-    ensures { result ≡ spec.stamp_borne taken.now }
-{
-    match taken.marked() {
-        None => 0,
-        Some(marked) => marked.stamp,
-    }
-}
-
 /// The slots that files bear, in their order.
 fn slots_borne(alloc: Global, files: &[Taken]) -> Result<Rows<u64>, AllocError>
     ensures { IfOk result (λ v. v ≡ map spec.slot_borne files.now) }
@@ -56,11 +46,11 @@ fn slots_borne(alloc: Global, files: &[Taken]) -> Result<Rows<u64>, AllocError>
 
 /// The stamps that they bear.
 fn stamps_borne(alloc: Global, files: &[Taken]) -> Result<Rows<u32>, AllocError>
-    ensures { IfOk result (λ v. v ≡ map spec.stamp_borne files.now) }
+    ensures { IfOk result (λ v. v ≡ map old_stamp files.now) }
 {
     let mut stamps = Rows::new(alloc);
     for taken in files {
-        stamps.push(stamp_borne(taken))?;
+        stamps.push(taken.stamp())?;
     }
     Ok(stamps)
 }

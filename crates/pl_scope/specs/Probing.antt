@@ -1,6 +1,7 @@
 -- A search among the symbols that the hash of a name leads to in a table of one object.
 use Rattle.std.specs.Prelude.{◌≡◌, ℕ, Bool, true, false, not, ◌&&◌, ◌==◌, min, List, [], ◌∷◌, length, Option, Some, None, slice_get, if◌then◌else◌}
 use Rattle.std.specs.List.{list_any}
+use Rattle.std.specs.Option.{option_map}
 use Rattle.pl_sym.specs.Definers.{is_definer}
 use Rattle.pl_sym.specs.declared.symbol.Symbol.{Symbol}
 use Rattle.pl_sym.specs.declared.class.Class.{Class}
@@ -13,7 +14,7 @@ use Rattle.pl_hash.specs.ChainSymbols.{chain_symbols, is_chain_symbol, name_hash
 use Rattle.pl_hash.specs.Table.{HashTable}
 use Rattle.pl_elf.specs.Kinds.{is_program}
 use Rattle.pl_object.specs.declared.object.Object.{Object}
-use Rattle.pl_scope.specs.Matching.{defines, has_version, counts}
+use Rattle.pl_scope.specs.Matching.{defines, has_version, counts, matching}
 use Rattle.pl_scope.specs.declared.probe.Pick.{Pick}
 use Rattle.pl_scope.specs.declared.probe.Pick.TheVariants.{Version, Plain, Index, Each, Shown}
 use Rattle.pl_scope.specs.declared.probe.Probe.{Probe}
@@ -84,7 +85,12 @@ is_other Other = true
 unfoldable pub has_canonical : Object → List ℕ → Class → Bool
 has_canonical o name class = is_other class && is_program o.kind && list_any (is_canonical_of o name) o.symbols
 
--- ---- the hash of what is wanted
+-- ---- what is wanted
 
+-- the hash of the name
 pub record IsWanted (w : Wanted) : Type 0 where
   pub gnu : w.gnu ≡ gnu w.name.now
+
+-- the index of an object's symbol that matches
+abbrev pub matching_for : Object → Wanted → Option ℕ
+matching_for o w = matching o w.name.now w.class (option_map (λ x. x.now) w.version)

@@ -20,7 +20,7 @@ use pl_object::Object;
 use pl_sym::{Class, Symbol};
 use pl_ver::constants::{VER_NDX_GLOBAL, VER_NDX_LOCAL, VERSYM_HIDDEN};
 
-/// An object with the lists of its definers, which are searched for a name, for references of a class.
+/// An object with the lists of its definers, which are searched for a name, for references of a class. The lists and the versions are those of the object by these keys of names, and the name of the version of each definer has a key.
 #[derive(Clone, Copy)]
 pub struct Block<'b, 'a> {
     pub object: &'b Object,

@@ -27,7 +27,7 @@ pub enum Listing {
     Version,
 }
 
-/// An object whose definers are listed, with its versions and the keys of names.
+/// An object whose definers are listed, one that `accept` gave, with its versions and the keys of names.
 #[derive(Clone, Copy)]
 pub struct Listed<'l, 'a> {
     pub object: &'l Object,

@@ -5,7 +5,6 @@ ghost use Rattle.std.specs.Option.{ForSome, option_map};
 ghost use Rattle.pl_object.specs.SymbolClauses.{version_name};
 ghost use Rattle.pl_sym.specs.Symbol.{is_undefined};
 ghost use Rattle.pl_scope.specs.Scope.{objects, IsFit, IsReference, IsSymbol};
-ghost use Rattle.pl_scope.specs.Matching.{matching};
 ghost use Rattle.pl_scope.specs.Probing as probing;
 ghost use Rattle.pl_scope.specs.Folder as folder;
 ghost use Rattle.pl_scope.specs.ScopeIndex as index;
@@ -94,8 +93,7 @@ fn has_canonical(object: &Object, name: &[u8], class: Class) -> bool
 /// The index of an object's symbol that matches, by a search through all its symbols.
 fn matching_by_list(object: &Object, wanted: &Wanted<'_>) -> Option<u32>
     requires { IsFit object.now }
-    ensures { result ≡ matching object.now wanted.now.name.now wanted.now.class
-        (option_map (λ x. x.now) wanted.now.version) }
+    ensures { result ≡ probing.matching_for object.now wanted.now }
 {
     match matching(object, wanted.name, wanted.class, wanted.version) {
         None => None,
@@ -107,8 +105,7 @@ fn matching_by_list(object: &Object, wanted: &Wanted<'_>) -> Option<u32>
 fn matching_by_hash(object: &Object, wanted: &Wanted<'_>) -> Option<u32>
     requires fit { IsFit object.now }
     requires wanted { probing.IsWanted wanted.now }
-    ensures { result ≡ matching object.now wanted.now.name.now wanted.now.class
-        (option_map (λ x. x.now) wanted.now.version) }
+    ensures { result ≡ probing.matching_for object.now wanted.now }
 {
     if has_canonical(object, wanted.name, wanted.class) {
         return matching_by_list(object, wanted);
@@ -134,8 +131,7 @@ fn matching_by_index(
 ) -> Option<u32>
     requires wanted { probing.IsWanted wanted.now }
     requires own { index.HasOwn definers.now member object.now }
-    ensures { result ≡ matching object.now wanted.now.name.now wanted.now.class
-        (option_map (λ x. x.now) wanted.now.version) }
+    ensures { result ≡ probing.matching_for object.now wanted.now }
 {
     let Some(key) = definers.numbers.key_of(wanted.name, wanted.gnu) else {
         return None;
@@ -433,7 +429,7 @@ pub fn find(scope: &Scope<'_>, reference: Reference) -> Option<Found>
     find_by(scope, reference, Way::InOrder)
 }
 
-/// The symbol that a reference finds in a scope, as `find` gives it, where an index of the folder whose objects the members are tells which of them may have a definer: those alone are asked. No memory is taken.
+/// The symbol that a reference finds in a scope, as `find` gives it, where an index of the folder whose objects the members are tells which of them may have a definer. Those alone are asked; where the index has more rows under the name's hash than the scope has members, all members are, one after the other. No memory is taken.
 pub fn find_among(scope: &Scope<'_>, reference: Reference, among: &Among<'_>) -> Option<Found>
     requires reference { IsReference scope.now reference }
     requires index { folder.IsIndexAmong (objects scope.now) among.now }

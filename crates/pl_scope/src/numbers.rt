@@ -1,4 +1,4 @@
-// Keys of names: their hashes, or, where many names share hashes, numbers of their own.
+// Keys of names: their hashes, or, where many names share hashes, numbers.
 ghost use Rattle.std.specs.Prelude.{◌≡◌, IfOk, OnOk};
 ghost use Rattle.pl_hash.specs.Hash.{gnu};
 ghost use Rattle.pl_scope.specs.Scope.{objects};
@@ -19,7 +19,7 @@ pub enum Numbers<'a> {
     /// A name's key is its hash in a GNU table.
     Hashes,
 
-    /// Each name has a number of its own.
+    /// A name's key is its number by a map of the names' bytes.
     Named(BTreeMap<&'a [u8], u32, Global>),
 }
 
@@ -149,7 +149,7 @@ fn add_versions<'a>(
     Ok(())
 }
 
-/// The keys of the names of all definers and versions of a scope: hashes, or where many share hashes a number for each name, so that no two names have the same. Each of these names has a key.
+/// The keys of the names of all definers and versions of a scope: hashes, or where many names share hashes numbers by a map of the names' bytes. Each of these names has a key. It fails only for want of memory.
 pub fn numbers_of<'a>(alloc: Global, scope: &Scope<'a>) -> Result<Numbers<'a>, AllocError>
     ensures { IfOk result (λ numbers. spec.AreNumbersOf (objects scope.now) numbers) }
 {

@@ -125,7 +125,7 @@ fn of_none<'a>(alloc: Global, numbers: Numbers<'a>) -> ScopeIndex<'a>
     }
 }
 
-/// The definers of all members, in the order of keys. The time grows as `n log n`. It fails only for want of memory.
+/// The definers of all members, in the order of keys; each member's object is one that `accept` gave. The time grows as `n log n`. It fails only for want of memory.
 pub fn index_of<'a>(alloc: Global, scope: &Scope<'a>) -> Result<ScopeIndex<'a>, AllocError>
     ensures { IfOk result (λ index. spec.IsIndex (objects scope.now) index) }
 {

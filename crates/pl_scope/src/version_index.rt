@@ -23,7 +23,7 @@ impl<'a> VersionIndex<'a> {
         }
     }
 
-    /// Notes a version, where none before it has its index.
+    /// Notes a version, where none before it has its index. It fails only for want of memory, and no clause says what is kept then.
     fn note(&mut self, row: &'a VersionName) -> Result<(), AllocError>
         ensures { OnOk result (spec.IsVersionNoted self.old row.now self.new) }
     {

@@ -1,5 +1,4 @@
 pub mod LinkableLaws
-pub mod ReadLaws
 pub mod CollectingLaws
 pub mod LinkedLaws
 pub mod OrdinaryLaws

@@ -1,8 +1,7 @@
 -- Fills that are made of meanings one after the other, and laid over a memory.
 use Rattle.std.proofs.Common.{◌≡◌, ℕ, ◌+◌, ◌<◌, false, List, [], ◌∷◌, ◌++◌, length, take, get_or, Option, Some, None, Ok, Err, refl, sym, ap, ◌∙◌}
 use Rattle.std.specs.Prelude.{MatchBool, ⊤}
-use Rattle.std.specs.List.{filter_map, list_any}
-use Rattle.std.specs.Option.{option_to_list}
+use Rattle.std.specs.List.{cons_option, filter_map, list_any}
 use Rattle.std.proofs.lemmas.Bool.{or_parts}
 use Rattle.std.proofs.lemmas.List.{append-nil, take_more}
 use Rattle.std.proofs.lemmas.List.Elements.{filter_map-append}
@@ -24,22 +23,22 @@ use Rattle.pl_value.specs.declared.word.Word.{Word}
 use Rattle.pl_value.specs.declared.word.Word.TheVariants.{Put, Copy, Nothing}
 use Rattle.pl_value.proofs.CollectingLaws.{linked_err}
 
-single : {X Y : Type 0} (h : X → Option Y) (x : X) (o : Option Y) → h x ≡ o → filter_map h (x ∷ []) ≡ option_to_list o
+single : {X Y : Type 0} (h : X → Option Y) (x : X) (o : Option Y) → h x ≡ o → filter_map h (x ∷ []) ≡ cons_option o []
 single h x None is = rw is refl
 single h x (Some y) is = rw is refl
 
 -- a meaning more, of which nothing or one row is made
-made_more : {Y : Type 0} (h : Meaning → Option Y) (gs : List Meaning) (i : ℕ) (d : Meaning) (front new : List Y) (o : Option Y) → i < length gs → o ≡ h (get_or gs i d) → new ≡ front ++ option_to_list o
+made_more : {Y : Type 0} (h : Meaning → Option Y) (gs : List Meaning) (i : ℕ) (d : Meaning) (front new : List Y) (o : Option Y) → i < length gs → o ≡ h (get_or gs i d) → new ≡ front ++ cons_option o []
     → front ≡ filter_map h (take i gs) → new ≡ filter_map h (take (i + 1) gs)
 made_more {Y = Y} h gs i d front new o lt made more so_far =
     let one = ap (filter_map h) (take_more gs i d lt) ∙ filter_map-append h (take i gs) (get_or gs i d ∷ []) in
-    more ∙ ap (λ (ys : List Y). ys ++ option_to_list o) so_far ∙ ap (λ (ys : List Y). filter_map h (take i gs) ++ ys) (sym (single h (get_or gs i d) o (sym made))) ∙ sym one
+    more ∙ ap (λ (ys : List Y). ys ++ cons_option o []) so_far ∙ ap (λ (ys : List Y). filter_map h (take i gs) ++ ys) (sym (single h (get_or gs i d) o (sym made))) ∙ sym one
 
-pub words_more : (gs : List Meaning) (i : ℕ) (d : Meaning) (front new : List Fill) (o : Option Fill) → i < length gs → o ≡ put_of (get_or gs i d).start (get_or gs i d).word → new ≡ front ++ option_to_list o → front ≡ words (take i gs) → new ≡ words (take (i + 1) gs)
+pub words_more : (gs : List Meaning) (i : ℕ) (d : Meaning) (front new : List Fill) (o : Option Fill) → i < length gs → o ≡ put_of (get_or gs i d).start (get_or gs i d).word → new ≡ front ++ cons_option o [] → front ≡ words (take i gs) → new ≡ words (take (i + 1) gs)
 unfolding words
 words_more gs i d front new o lt made more so_far = made_more (λ (h : Meaning). put_of h.start h.word) gs i d front new o lt made more so_far
 
-pub copies_more : (memory : Memory) (gs : List Meaning) (i : ℕ) (d : Meaning) (front new : List Fill) (o : Option Fill) → i < length gs → o ≡ copy_of memory (get_or gs i d).start (get_or gs i d).word → new ≡ front ++ option_to_list o
+pub copies_more : (memory : Memory) (gs : List Meaning) (i : ℕ) (d : Meaning) (front new : List Fill) (o : Option Fill) → i < length gs → o ≡ copy_of memory (get_or gs i d).start (get_or gs i d).word → new ≡ front ++ cons_option o []
     → front ≡ copies memory (take i gs) → new ≡ copies memory (take (i + 1) gs)
 unfolding copies
 copies_more memory gs i d front new o lt made more so_far = made_more (λ (h : Meaning). copy_of memory h.start h.word) gs i d front new o lt made more so_far

@@ -1,7 +1,6 @@
 // The ordinary image of a scope.
-ghost use Rattle.std.specs.Prelude.{◌≡◌, ◌<◌, ◌++◌, length, IfOk, OnOk};
+ghost use Rattle.std.specs.Prelude.{◌≡◌, length, IfOk};
 ghost use Rattle.std.specs.List.{list_any};
-ghost use Rattle.std.specs.Option.{option_to_list};
 ghost use Rattle.pl_base.specs.Memory.{layered};
 ghost use Rattle.pl_image.specs.Image.{all_pieces, patched, AreLoaded};
 ghost use Rattle.pl_scope.specs.Scope.{objects};
@@ -11,6 +10,7 @@ ghost use Rattle.pl_value.specs.Ordinary as spec;
 use crate::collecting::meanings;
 use crate::targets::base_of;
 use crate::{Meaning, OrdinaryFault, Places, Word};
+use pl_base::Rows;
 use pl_image::{Image, LoadedObject, Parts, Patch, Patched, load_object};
 use pl_scope::Scope;
 use pl_tls::Module;
@@ -54,29 +54,16 @@ fn word_patch(alloc: Global, meaning: &Meaning) -> Result<Option<Patch>, AllocEr
     }
 }
 
-/// Adds a patch at the end, if there is one.
-fn push_some(patches: &mut Vec<Patch>, patch: Option<Patch>) -> Result<(), AllocError>
-    ensures { OnOk result (patches.new.items ≡ patches.old.items ++ option_to_list patch) }
-{
-    match patch {
-        None => Ok(()),
-        Some(patch) => {
-            patches.push(patch)?;
-            Ok(())
-        }
-    }
-}
-
 /// The words that relocations give, for their places, in the order of the relocations; those that give none are left out. It fails only for want of memory.
 #[tactic(auto, unfolding(crate::specs::Linked::words))]
 pub fn words(alloc: Global, meanings: &[Meaning]) -> Result<Vec<Patch>, AllocError>
     ensures { IfOk result (λ v. v.items ≡ linked.words meanings.now) }
 {
-    let mut patches = Vec::with_capacity(alloc, meanings.len())?;
+    let mut patches = Rows::from_vec(Vec::with_capacity(alloc, meanings.len())?);
     for meaning in meanings {
-        push_some(&mut patches, word_patch(alloc, meaning)?)?;
+        patches.push_some(word_patch(alloc, meaning)?)?;
     }
-    Ok(patches)
+    Ok(patches.into_vec())
 }
 
 /// The bytes for the place of a copy, where there are any, as they stand after the words.
@@ -106,11 +93,11 @@ fn copies(
 ) -> Result<Vec<Patch>, AllocError>
     ensures { IfOk result (λ v. v.items ≡ linked.copies (patched worded.now) meanings.now) }
 {
-    let mut patches = Vec::new(alloc);
+    let mut patches = Rows::new(alloc);
     for meaning in meanings {
-        push_some(&mut patches, copy_of(alloc, worded, meaning)?)?;
+        patches.push_some(copy_of(alloc, worded, meaning)?)?;
     }
-    Ok(patches)
+    Ok(patches.into_vec())
 }
 
 fn is_copy(meaning: &Meaning) -> bool

@@ -1,5 +1,5 @@
-use Rattle.std.proofs.Common.{◌≡◌, ℕ, List, Some, length, refl, sym, ap, subst, ◌∙◌}
-use Rattle.pl_build.specs.StringTable.{has_text, text_behind}
+use Rattle.std.proofs.Common.{ℕ, Some, length, refl, sym, subst}
+use Rattle.pl_build.specs.StringTable.{has_text}
 use Rattle.pl_build.specs.TextIndex.{IsIndexOf, IsNoted, is_text}
 use Rattle.pl_build.specs.declared.string_table.Entry.{Entry}
 use Rattle.pl_build.specs.declared.string_table.StringTable.{StringTable}

@@ -31,6 +31,6 @@ remaining_number-requires-clause-reference c =
 pub loop-number-preserved : goal.loop-number-preserved
 loop-number-preserved c = record {
   found = zip_more (λ r f. IsSought (objects c.args.own.now.scope) (reference 0 r) f) c.as_slice-relocs.result.now c.loop-number.number _ c.loop-number.all _ _ c.loop-number-test.true c.loop-number.invariant.found (rw c.reference_of.ensures at c.sought-found.ensures) c.in_ok-push.ensures.ok;
-  remaining = holds_next (GivesOneWordOf c.args.index.now (objects c.args.own.now.scope) c.as_slice-relocs.result.now) c.loop-number.number c.loop-number.remaining _ c.remaining_number.result c.in_ok-push_some.ensures c.loop-number.invariant.remaining
+  remaining = holds_next (GivesOneWordOf c.args.index.now (objects c.args.own.now.scope) c.as_slice-relocs.result.now) c.loop-number.number c.loop-number.remaining _ c.remaining_number.result c.in_ok-push_some.ensures.ok c.loop-number.invariant.remaining
       (any_default c.args.index.now (objects c.args.own.now.scope) c.as_slice-relocs.result.now c.loop-number.number _ c.remaining_number.result c.loop-number-test.true c.remaining_number.ensures);
 }

@@ -10,7 +10,7 @@ use Rattle.pl_slots.specs.declared.slot.Slot.{Slot}
 use Rattle.pl_slots.specs.declared.slot.Want.{Want}
 use Rattle.pl_cone.specs.Faulted.{is_memory, of_plan}
 use Rattle.pl_cone.specs.Slots.{HaveWantedNames, table_slots, table_walks, table_wants}
-use Rattle.pl_cone.specs.declared.asked.Asked.{Asked}
+use Rattle.pl_cone.specs.declared.planning.Asked.{Asked}
 use Rattle.pl_cone.specs.declared.fault.PlanningFault.{PlanningFault}
 use Rattle.pl_cone.proofs.WantLaws.{wants_aligned, wants_spanned}
 use Rattle.pl_cone.proofs.slots.planned_slots.Goals as goal

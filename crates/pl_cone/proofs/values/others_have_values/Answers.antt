@@ -4,7 +4,7 @@ use Rattle.std.proofs.lemmas.Result.{err_from_is_err_and}
 use Rattle.pl_scope.proofs.MemberLaws.{length_objects}
 use Rattle.pl_value.proofs.LinkableLaws.{all_symbols}
 use Rattle.pl_cone.specs.Links.{TellsOf, meaning_in, objects_of}
-use Rattle.pl_cone.specs.declared.link.Link.{Link}
+use Rattle.pl_cone.specs.declared.linking.Link.{Link}
 use Rattle.pl_cone.proofs.ValueLaws.{member_past, member_stops, all_members}
 use Rattle.pl_cone.proofs.values.others_have_values.Goals as goal
 

@@ -30,8 +30,8 @@ loop-index-preserved c =
 pub returns-in_err-enter-clause-walking : goal.returns-in_err-enter-clause-walking
 returns-in_err-enter-clause-walking c = ready_after c.args.needs.now (c.args.row + 1) c.enter.new.walking c.in_err-enter.ensures.walking (c.in_err-enter.ensures.more.walk ∙ c.loop-index.invariant.walk)
 
-pub returns-in_err-rows_of-clause-walking : goal.returns-in_err-rows_of-clause-walking
-returns-in_err-rows_of-clause-walking c = ready_after c.args.needs.now (c.args.row + 1) _ c.loop-index.invariant.walking c.loop-index.invariant.walk
+pub returns-in_err-rows-clause-walking : goal.returns-in_err-rows-clause-walking
+returns-in_err-rows-clause-walking c = ready_after c.args.needs.now (c.args.row + 1) _ c.loop-index.invariant.walking c.loop-index.invariant.walk
 
 pub returns-clause-walking : goal.returns-clause-walking
 returns-clause-walking c = ready_after c.args.needs.now (c.args.row + 1) _ c.loop-index.invariant.walking c.loop-index.invariant.walk
@@ -39,5 +39,5 @@ returns-clause-walking c = ready_after c.args.needs.now (c.args.row + 1) _ c.loo
 pub returns-clause-ok : goal.returns-clause-ok
 returns-clause-ok c =
     let n = c.args.needs.now in
-    subst (λ (rows : List ℕ). IsWalkAt n.files.now c.args.row rows) (sym (c.in_ok-rows_of.ensures ∙ c.deref.ensures.value))
+    subst (λ (rows : List ℕ). IsWalkAt n.files.now c.args.row rows) (sym (c.from_vec.ensures ∙ (c.in_ok-rows.ensures.items ∙ c.deref.ensures.value)))
     (under_ends n c.requires.folder.needs c.args.row c.loop-index.index c.loop-index.walking c.requires.row c.loop-index-test.false c.loop-index.invariant)

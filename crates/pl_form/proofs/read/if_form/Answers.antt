@@ -1,4 +1,4 @@
-use Rattle.std.proofs.Common.{Bool, List, ℕ, Some, ap, ◌∙◌}
+use Rattle.std.proofs.Common.{Bool, Some, ap, ◌∙◌}
 use Rattle.pl_form.specs.Back.{when}
 use Rattle.pl_form.specs.Reading.{is_form}
 use Rattle.pl_form.proofs.MarkedLaws.{some_when, form_if}

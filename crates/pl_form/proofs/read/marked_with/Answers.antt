@@ -1,8 +1,7 @@
-use Rattle.std.proofs.Common.{◌≡◌, ℕ, List, Option, Some, sym, ap, subst, ◌∙◌, rules}
+use Rattle.std.proofs.Common.{◌≡◌, Option, sym, ap, subst, ◌∙◌}
 use Rattle.std.specs.Prelude.{IfOk}
-use Rattle.pl_form.specs.Back.{when}
 use Rattle.pl_form.specs.Found.{ps_of}
-use Rattle.pl_form.specs.Reading.{checked, candidate, IsMade}
+use Rattle.pl_form.specs.Reading.{IsMade}
 use Rattle.pl_form.specs.declared.file.Marked.{Marked}
 use Rattle.pl_form.proofs.MarkedLaws.{candidate_original, same_checked}
 use Rattle.pl_form.proofs.SoundLaws.{made_of}

@@ -1,6 +1,5 @@
 use Rattle.std.proofs.Common.{◌≡◌, None, Some, refl, subst, rules}
-use Rattle.pl_elf.specs.Kinds.{is_library}
-use Rattle.pl_form.specs.Reading.{firm_object, lists_in, AreContentsOf, ContentsIfAny}
+use Rattle.pl_form.specs.Reading.{firm_object, AreContentsOf, ContentsIfAny}
 use Rattle.pl_form.proofs.MarkedLaws.{own_here, steps, no_lists}
 use Rattle.pl_form.proofs.read.parts_in.Goals as goal
 

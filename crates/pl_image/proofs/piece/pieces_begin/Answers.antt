@@ -1,4 +1,4 @@
-use Rattle.std.proofs.Common.{◌∙◌, sym, ◌*◌, ◌/◌, ◌<◌, length, arith}
+use Rattle.std.proofs.Common.{◌∙◌, sym, ◌<◌, length, arith}
 use Rattle.std.proofs.lemmas.Bool.{eqb-false}
 use Rattle.pl_image.proofs.PieceLemmas.{before_first, piece_limit}
 use Rattle.pl_image.proofs.piece.pieces_begin.Goals as goal

@@ -1,4 +1,4 @@
-use Rattle.std.proofs.Common.{◌≡◌, ℕ, ◌+◌, ◌/◌, ap, ◌∙◌, arith}
+use Rattle.std.proofs.Common.{ℕ, ◌+◌, ◌/◌, ap, arith}
 use Rattle.pl_image.proofs.TouchLemmas.{in_order, are_near}
 use Rattle.pl_image.proofs.touched.near.Goals as goal
 

@@ -1,4 +1,4 @@
-use Rattle.std.proofs.Common.{◌≡◌, ◌∙◌, ℕ, List, Ok, Err, ap, sym}
+use Rattle.std.proofs.Common.{◌∙◌, ℕ, List, Ok, Err, ap, sym}
 use Rattle.pl_pie.specs.Placed.{placed}
 use Rattle.pl_pie.proofs.HoldLaws.{by_function}
 use Rattle.pl_loader.specs.declared.fault.LoadFault.TheVariants as faults

@@ -2,7 +2,6 @@ use Rattle.std.proofs.Common.{◌≡◌, ℕ, List, None, Some, sym, ap, subst, 
 use Rattle.std.specs.List.{All}
 use Rattle.std.proofs.lemmas.Result.{IfOk-weaker}
 use Rattle.pl_elf.specs.Headers.{header, loads, segments}
-use Rattle.pl_elf.specs.declared.header.Header.{Header}
 use Rattle.pl_elf.specs.declared.segment.Segment.{Segment}
 use Rattle.pl_loader.proofs.FormLaws.{EndsLow, ends_by, has_header}
 use Rattle.pl_loader.proofs.placing.loads_of.Goals as goal

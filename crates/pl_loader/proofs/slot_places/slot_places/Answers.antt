@@ -1,5 +1,5 @@
-use Rattle.std.proofs.Common.{◌≡◌, ℕ, List, Option, length, refl, sym, ap, ◌∙◌, arith, rules}
-use Rattle.pl_loader.proofs.OwnLaws.{OwnSoFar, own_begins, own_turn, own_ends}
+use Rattle.std.proofs.Common.{◌∙◌, arith, rules}
+use Rattle.pl_loader.proofs.OwnLaws.{own_begins, own_turn, own_ends}
 use Rattle.pl_loader.proofs.slot_places.slot_places.Goals as goal
 
 pub loop-library-init : goal.loop-library-init

@@ -1,5 +1,4 @@
-use Rattle.std.proofs.Common.{◌≡◌, ℕ, List, sym, ap, subst, ◌∙◌}
-use Rattle.pl_base.specs.Memory.{Piece}
+use Rattle.std.proofs.Common.{◌≡◌, ap, ◌∙◌}
 use Rattle.pl_elf.specs.Headers.{header, segments}
 use Rattle.pl_image.specs.Image.{ascends}
 use Rattle.pl_image.proofs.PlacedLaws.{pieces_ascend}

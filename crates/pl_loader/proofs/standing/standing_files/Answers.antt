@@ -1,4 +1,4 @@
-use Rattle.std.proofs.Common.{◌≡◌, ◌+◌, ◌≤◌, true, length, List, map, rules, refl, sym, subst, ◌∙◌}
+use Rattle.std.proofs.Common.{◌≡◌, ◌+◌, ◌≤◌, true, length, List, rules, sym, subst}
 use Rattle.std.specs.List.{All}
 use Rattle.std.proofs.lemmas.List.{length_push}
 use Rattle.std.proofs.lemmas.List.Elements.{All-push, All-same}
@@ -9,7 +9,6 @@ use Rattle.pl_image.specs.Image.{all_pieces, ascends}
 use Rattle.pl_image.specs.declared.loaded_object.LoadedObject.{LoadedObject}
 use Rattle.pl_loader.specs.Fast.{IsMarked}
 use Rattle.pl_loader.specs.Loading.{IsRead}
-use Rattle.pl_loader.specs.declared.object_file.ObjectFile.{ObjectFile}
 use Rattle.pl_loader.proofs.StandingLaws.{standing_more, standing_done, placed_turn, standing_apart}
 use Rattle.pl_loader.proofs.standing.standing_files.Goals as goal
 

@@ -1,4 +1,4 @@
-use Rattle.std.proofs.Common.{◌≡◌, sym, subst}
+use Rattle.std.proofs.Common.{sym, subst}
 use Rattle.pl_loader.specs.Loading.{IsRead}
 use Rattle.pl_loader.proofs.GiveLaws.{read_of}
 use Rattle.pl_loader.proofs.walk_files.read_named.Goals as goal

@@ -1,9 +1,9 @@
-use Rattle.std.proofs.Common.{◌≡◌, ℕ, List, Option, Some, sym, subst, ap, ◌∙◌}
+use Rattle.std.proofs.Common.{◌≡◌, List, Some, sym, subst, ap, ◌∙◌}
 use Rattle.pl_elf.specs.declared.range.Range.{Range}
-use Rattle.pl_place.specs.Policy.{IsAsked, MayAnswer}
+use Rattle.pl_place.specs.Policy.{MayAnswer}
 use Rattle.pl_pie.specs.Pie.{pie}
 use Rattle.pl_pie.proofs.CallLaws.{pie_placed}
-use Rattle.pl_pie.specs.Placed.{Asked, HoldsBy, IsSmall, fixed_at, pie_holes, placed}
+use Rattle.pl_pie.specs.Placed.{IsSmall, fixed_at, placed}
 use Rattle.pl_pie.proofs.BareLaws.{small_at}
 use Rattle.pl_pie.proofs.placed.fix_placed.Goals as goal
 

@@ -7,7 +7,7 @@ use Rattle.pl_conflict.specs.Conflicts as spec
 use Rattle.pl_conflict.proofs.ConflictLaws.{conflicts_ok}
 use Rattle.pl_cone.specs.Links.{objects_of}
 use Rattle.pl_elf.specs.declared.range.Range.{Range}
-use Rattle.pl_rewrite.specs.declared.held.HeldWord.{HeldWord}
+use Rattle.pl_rewrite.specs.declared.row_words.HeldWord.{HeldWord}
 use Rattle.pl_rewrite.specs.declared.row_words.RowWords.{RowWords}
 use Rattle.pl_scope.proofs.MemberLaws.{length_objects}
 use Rattle.pl_value.specs.Ordinary.{loaded_objects}

@@ -1,7 +1,16 @@
-use Rattle.pl_rewrite.proofs.PlaceLaws.{copy_fills}
+use Rattle.std.proofs.Common.{◌<◌, arith, length}
+use Rattle.pl_rewrite.proofs.PlaceLaws.{bytes_read, copy_fills, one_loaded}
 use Rattle.pl_rewrite.proofs.copies.copied_over.Goals as goal
+
+pub one_of-loaded-requires : goal.one_of-loaded-requires
+one_of-loaded-requires c = omega (arith, c.requires.member, c.requires.filling.loaded.one_each)
+
+pub read-requires : goal.read-requires
+read-requires c = one_loaded c.args.filling.now c.args.member c.one_of-loaded.result.now c.requires.filling.loaded (omega (arith, c.requires.member, c.requires.filling.loaded.one_each)) c.one_of-loaded.ensures
 
 pub returns : goal.returns
 returns c =
-    copy_fills c.args.filling.now c.args.reloc.now c.args.member c.args.from c.args.bytes c.in_ok-standing.standing.items c.in_ok-first.first.items c.as_slice-before.result.now c.as_slice-over.result.now c.in_ok-all.all.items c.in_ok-standing.ensures c.in_ok-first.ensures
+    let lt : c.args.member < length c.args.filling.now.loaded.now = omega (arith, c.requires.member, c.requires.filling.loaded.one_each) in
+    copy_fills c.args.filling.now c.args.reloc.now c.args.member c.args.from c.args.bytes c.in_ok-standing.standing.items c.in_ok-first.first.items c.as_slice-before.result.now c.as_slice-over.result.now c.in_ok-all.all.items c.in_ok-standing.ensures
+    (bytes_read c.args.filling.now c.args.member c.one_of-loaded.result.now c.requires.filling.loaded lt c.one_of-loaded.ensures c.args.filling.now.near.now c.args.from c.args.bytes c.in_ok-first.first.items c.in_ok-first.ensures)
     c.as_slice-before.ensures.value c.as_slice-over.ensures.value c.in_ok-all.ensures

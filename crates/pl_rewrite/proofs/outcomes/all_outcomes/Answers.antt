@@ -42,7 +42,7 @@ loop-cause-preserved c =
     let long = ap length c.in_ok-push.ensures.items in
     rw (length_push c.loop-cause.yielded c.in-Some.cause) (
       omega (arith, long, length_push c.loop-cause.all.items c.in_ok-outcome.outcome, c.loop-cause.invariant.0),
-      all_more ts c.args.causes ms c.loop-cause.all.items _ c.len-row.result c.index-files-row.result c.in-Some.cause c.joined-one.result n.item c.next-next.result c.in_ok-outcome.outcome counted file cause n.is at c.joined-one.ensures c.in_ok-outcome.ensures c.in_ok-push.ensures.items
+      all_more ts c.args.causes ms c.loop-cause.all.items _ c.len-row.result c.index-files-row.result c.in-Some.cause c.flatten-one.result n.item c.next-next.result c.in_ok-outcome.outcome counted file cause n.is at c.flatten-one.ensures c.in_ok-outcome.ensures c.in_ok-push.ensures.items
           c.loop-cause.invariant.1,
       n.after,
       n.count,

@@ -47,8 +47,8 @@ loop-one-preserved c =
     let at : slice_get ps c.len-row.result ≡ Some n.item = subst (λ (k : ℕ). slice_get ps k ≡ Some n.item) row n.at in
     let long = ap length c.in_ok-push.ensures.items in
     rw (length_push c.loop-one.yielded c.in-Some.one) (
-      omega (arith, long, length_push c.loop-one.all.items c.either-made.result, c.loop-one.invariant.0),
-      made_more c.args.numbered.now c.args.stale.now ps c.loop-one.all.items _ c.len-row.result c.in_ok-library.library c.joined-program.result c.either-made.result n.item c.next-next.result counted c.requires.programs n.is at c.in_ok-library.ensures c.joined-program.ensures c.either-made.ensures
+      omega (arith, long, length_push c.loop-one.all.items c.or-made.result, c.loop-one.invariant.0),
+      made_more c.args.numbered.now c.args.stale.now ps c.loop-one.all.items _ c.len-row.result c.in_ok-library.library c.flatten-program.result c.or-made.result n.item c.next-next.result counted c.requires.programs n.is at c.in_ok-library.ensures c.flatten-program.ensures c.or-made.ensures
           c.in_ok-push.ensures.items c.loop-one.invariant.1,
       n.after,
       n.count,

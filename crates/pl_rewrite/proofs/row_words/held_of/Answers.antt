@@ -1,8 +1,13 @@
-use Rattle.std.proofs.Common.{subst}
+use Rattle.std.proofs.Common.{[], ◌∷◌, ◌∙◌, ap, length, subst, sym}
+use Rattle.std.specs.List.{AllZip}
 use Rattle.pl_cone.specs.Taken.{HasItsEntry}
+use Rattle.pl_image.proofs.PlacedLaws.{alone}
+use Rattle.pl_image.specs.declared.loaded_object.LoadedObject.{LoadedObject}
 use Rattle.pl_rewrite.proofs.DigestLaws.{numbered_read, read_item}
+use Rattle.pl_rewrite.proofs.HeldLaws.{placed_zero}
 use Rattle.pl_rewrite.proofs.RowTestLaws.{file_or}
 use Rattle.pl_rewrite.proofs.RowWordLaws.{held_at, held_count, held_firm, held_none, held_numbers}
+use Rattle.pl_rewrite.specs.Held.{IsHeldIn}
 use Rattle.pl_rewrite.proofs.row_words.held_of.Goals as goal
 
 pub returns-in_default : goal.returns-in_default
@@ -11,14 +16,25 @@ returns-in_default c = held_none c.args.numbered.now c.args.row _ c.args.remaini
 pub original-requires : goal.original-requires
 original-requires c = subst HasItsEntry c.index-numbered-row.is (read_item c.args.numbered.now.files.now c.args.row c.index-numbered-row.result (numbered_read c.args.numbered.now c.requires.numbered) c.requires.row.within c.index-numbered-row.is)
 
-pub held_remaining-requires-clause-original : goal.held_remaining-requires-clause-original
-held_remaining-requires-clause-original c = held_firm c.args.numbered.now c.args.row _ c.in-Some.object.now c.original.result.now c.requires.row.walk c.requires.row.library (file_or c.args.numbered.now c.args.row c.index-numbered-row.result c.requires.row.within) c.in-Some.ensures c.original.ensures
+pub load_object-requires : goal.load_object-requires
+load_object-requires c =
+    placed_zero c.original.result.now c.in-Some.object.now
+    (held_firm c.args.numbered.now c.args.row _ c.in-Some.object.now c.original.result.now c.requires.row.walk c.requires.row.library (file_or c.args.numbered.now c.args.row c.index-numbered-row.result c.requires.row.within) c.in-Some.ensures c.original.ensures)
 
-pub held_remaining-requires-clause-words : goal.held_remaining-requires-clause-words
-held_remaining-requires-clause-words c = held_count c.args.numbered.now c.args.row _ c.in-Some.object.now c.args.words.now c.requires.row.walk (file_or c.args.numbered.now c.args.row c.index-numbered-row.result c.requires.row.within) c.in-Some.ensures c.requires.words
+pub held_words-requires-clause-loaded : goal.held_words-requires-clause-loaded
+held_words-requires-clause-loaded c = alone c.in_ok-loaded.loaded c.in_ok-loaded.ensures.ascends c.in_ok-loaded.ensures.fits
 
-pub held_remaining-requires-clause-remaining : goal.held_remaining-requires-clause-remaining
-held_remaining-requires-clause-remaining c = held_numbers c.args.numbered.now c.args.row _ c.in-Some.object.now c.args.remaining.now (file_or c.args.numbered.now c.args.row c.index-numbered-row.result c.requires.row.within) c.in-Some.ensures c.requires.remaining
+pub held_words-requires-clause-words : goal.held_words-requires-clause-words
+held_words-requires-clause-words c =
+    held_count c.args.numbered.now c.args.row _ c.in-Some.object.now c.args.words.now c.requires.row.walk (file_or c.args.numbered.now c.args.row c.index-numbered-row.result c.requires.row.within) c.in-Some.ensures c.requires.words
+    ∙ ap length (sym c.as_slice-relocs.ensures)
+
+pub held_words-requires-clause-remaining : goal.held_words-requires-clause-remaining
+held_words-requires-clause-remaining c =
+    rw c.as_slice-relocs.ensures (held_numbers c.args.numbered.now c.args.row _ c.in-Some.object.now c.args.remaining.now (file_or c.args.numbered.now c.args.row c.index-numbered-row.result c.requires.row.within) c.in-Some.ensures c.requires.remaining)
 
 pub returns : goal.returns
-returns c = held_at c.args.numbered.now c.args.row _ c.in-Some.object.now c.original.result.now c.args.words.now c.args.remaining.now c.in_ok-held.held (file_or c.args.numbered.now c.args.row c.index-numbered-row.result c.requires.row.within) c.in-Some.ensures c.original.ensures c.requires.words c.in_ok-held.ensures
+returns c =
+    let holds = rw c.as_slice-relocs.ensures at c.in_ok-held.ensures in
+    held_at c.args.numbered.now c.args.row _ c.in-Some.object.now c.original.result.now c.args.words.now c.args.remaining.now c.in_ok-held.held (file_or c.args.numbered.now c.args.row c.index-numbered-row.result c.requires.row.within) c.in-Some.ensures c.original.ensures c.requires.words
+    (subst (λ (l : LoadedObject). AllZip (IsHeldIn (l ∷ []) c.in-Some.object.now.relocations c.args.words.now) c.args.remaining.now c.in_ok-held.held) c.in_ok-loaded.ensures.value holds)

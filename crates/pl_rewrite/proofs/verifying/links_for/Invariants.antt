@@ -1,6 +1,6 @@
 use Rattle.std.proofs.Common.{◌≡◌, ℕ, length, Some}
 use Rattle.std.specs.Prelude.{slice_get}
-use Rattle.pl_cone.specs.declared.link.Link.{Link}
+use Rattle.pl_cone.specs.declared.linking.Link.{Link}
 use Rattle.pl_rewrite.specs.Verify.{IsLinkIf}
 use Rattle.pl_rewrite.proofs.verifying.links_for.Given as goal
 

@@ -2,7 +2,8 @@ use Rattle.std.proofs.Common.{ℕ, List, length, ap, sym, subst, ◌∙◌}
 use Rattle.std.proofs.lemmas.List.{length-map}
 use Rattle.pl_cone.specs.Table.{AreWalks, refusals_in}
 use Rattle.pl_cone.proofs.TableLaws.{walks_are}
-use Rattle.pl_rewrite.specs.Verify.{slot_borne, stamp_borne}
+use Rattle.pl_cone.specs.Currency.{old_stamp}
+use Rattle.pl_rewrite.specs.Verify.{slot_borne}
 use Rattle.pl_rewrite.proofs.verifying.meant.Goals as goal
 
 pub walks_of-requires : goal.walks_of-requires
@@ -19,7 +20,7 @@ meant_if_marked-requires-clause-numbered c =
       walks = subst (λ (rows : List (List ℕ)). AreWalks ts (record { walks = rows; causes = refusals_in ts })) (sym c.as_slice-rows.ensures) (walks_are ts c.in_ok-made.made c.in_ok-made.ensures);
       index = c.in_ok-index.ensures;
       places = ap length (c.as_slice-places.ensures ∙ c.in_ok-slots.ensures) ∙ length-map ts slot_borne;
-      stamps = ap length (c.as_slice-stamps.ensures ∙ c.in_ok-times.ensures) ∙ length-map ts stamp_borne;
+      stamps = ap length (c.as_slice-stamps.ensures ∙ c.in_ok-times.ensures) ∙ length-map ts old_stamp;
     }
 
 pub meant_if_marked-requires-clause-borne : goal.meant_if_marked-requires-clause-borne

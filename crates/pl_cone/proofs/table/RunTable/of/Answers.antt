@@ -1,7 +1,7 @@
 use Rattle.std.proofs.Common.{List, Option, ℕ, length, sym, ap, subst, ◌∙◌}
 use Rattle.std.specs.Prelude.{slice_get}
 use Rattle.pl_cone.specs.Table.{AreWalks, refusals_in}
-use Rattle.pl_cone.specs.declared.link.Link.{Link}
+use Rattle.pl_cone.specs.declared.linking.Link.{Link}
 use Rattle.pl_cone.specs.declared.skip.Skip.{Skip}
 use Rattle.pl_cone.proofs.ColumnLaws.{refusals_are}
 use Rattle.pl_cone.proofs.TableLaws.{causes_are, links_are, walks_are}

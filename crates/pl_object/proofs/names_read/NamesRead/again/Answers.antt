@@ -1,4 +1,4 @@
-use Rattle.std.proofs.Common.{◌∙◌, ℕ, List, Option, Some, ap, sym}
+use Rattle.std.proofs.Common.{◌∙◌, ℕ, List, Some, ap, sym}
 use Rattle.std.specs.Option.{option_copied}
 use Rattle.pl_object.proofs.names_read.NamesRead.again.Goals as goal
 
