@@ -1,6 +1,6 @@
 -- What the libraries of a table want, and where they go.
-use Rattle.std.specs.Prelude.{◌≡◌, ◌<◌, ℕ, Bool, true, false, List, [], ◌∷◌, ◌++◌, map, filter, length, slice_get, Option, Some, None, Result, Ok, Err, if◌then◌else◌}
-use Rattle.std.specs.List.{All, filter_map, cons_option, range_with_len}
+use Rattle.std.specs.Prelude.{◌≡◌, ℕ, Bool, true, false, List, [], ◌∷◌, ◌++◌, map, filter, length, slice_get, Option, Some, None, Result, Ok, Err, if◌then◌else◌}
+use Rattle.std.specs.List.{filter_map, cons_option, range_with_len}
 use Rattle.pl_base.specs.Answers.{Answers, because}
 use Rattle.pl_cone.specs.Faulted.{is_memory, of_plan}
 use Rattle.pl_cone.specs.Plans.{start_of, want_of}
@@ -90,10 +90,6 @@ start_at slots (Some position) = start_of (slice_get slots position)
 -- the slots have the names of the wants, in their order
 abbrev pub HaveWantedNames : List Want → List Slot → Type 0
 HaveWantedNames ws slots = map (λ s. s.name) slots ≡ map (λ w. w.name) ws
-
--- the same, of wants of some addresses
-abbrev pub HaveNamesIf : List Want → List Slot → Type 0
-HaveNamesIf ws slots = All (λ w. 0 < w.span) ws → HaveWantedNames ws slots
 
 -- the slots, and where each row's starts; or the fault
 abbrev pub PlacesSlots : RunTable → Asked → Result PlannedSlots PlanningFault → Type 0

@@ -7,11 +7,9 @@ use pl_base::Text;
 use pl_io::NoMemory;
 use pl_slots::PlanFault;
 use std::alloc::AllocError;
-use std::fmt::{self, Debug, Formatter, Write};
-use thiserror::Error;
 
 /// Why a run has no plan.
-#[derive(Drop, Error)]
+#[derive(Drop)]
 pub enum PlanningFault {
     /// No hole of the region that is left holds a library at an address that it wants.
     NoSlot {
@@ -30,31 +28,6 @@ pub enum PlanningFault {
 
     /// There was no memory for the answer.
     NoMemory,
-}
-
-impl fmt::Display for PlanningFault {
-    fn fmt<W: Write>(&self, out: &mut Formatter<W>) -> fmt::Result {
-        let cause = match self {
-            PlanningFault::NoSlot { .. } => "no slot",
-            PlanningFault::StampsSpent(_) => "no stamp is left",
-            PlanningFault::NoMemory => "out of memory",
-        };
-        out.write_str(cause)
-    }
-}
-
-impl Debug for PlanningFault {
-    fn fmt<W: Write>(&self, out: &mut Formatter<W>) -> fmt::Result {
-        match self {
-            PlanningFault::NoSlot { name, span, hole } => write!(
-                out,
-                "NoSlot {} {span} {hole}",
-                name.as_str()
-            ),
-            PlanningFault::StampsSpent(stamp) => write!(out, "StampsSpent {stamp}"),
-            PlanningFault::NoMemory => out.write_str("NoMemory"),
-        }
-    }
 }
 
 impl From<NoMemory> for PlanningFault {

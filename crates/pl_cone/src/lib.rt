@@ -13,7 +13,6 @@ mod linking;
 mod needs;
 mod one_word;
 mod planning;
-mod pushing;
 mod scopes;
 mod skip;
 mod slots;

@@ -16,7 +16,6 @@ use pl_scope::{Found, Index, Reference, Scope, own_symbol};
 use pl_sym::Symbol;
 use pl_value::reference_of;
 
-/// Whether a kind gives the address of its symbol.
 #[tactic(auto, unfolding(crate::specs::OneWord::is_of_address))]
 fn is_of_address(kind: u32) -> bool
     ensures { result ≡ spec.is_of_address kind }
@@ -24,7 +23,6 @@ fn is_of_address(kind: u32) -> bool
     kind == R_X86_64_64 || kind == R_X86_64_GLOB_DAT || kind == R_X86_64_JUMP_SLOT
 }
 
-/// Whether a kind refers to no symbol.
 #[tactic(auto, unfolding(crate::specs::OneWord::is_without_symbol))]
 fn is_without_symbol(kind: u32) -> bool
     ensures { result ≡ spec.is_without_symbol kind }
@@ -32,7 +30,6 @@ fn is_without_symbol(kind: u32) -> bool
     kind == R_X86_64_RELATIVE || kind == R_X86_64_NONE
 }
 
-/// The symbol that was found in a scope.
 #[tactic(auto, using(pl_scope::proofs::MemberLaws::length_objects))]
 fn found_symbol<'a>(own: &Scope<'a>, found: Found) -> &'a Symbol
     requires { IsSymbol (objects own.now) found.member found.symbol }

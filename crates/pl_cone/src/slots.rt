@@ -1,15 +1,10 @@
 // The slots of the libraries that may be prelinked.
-ghost use Rattle.std.specs.Prelude.{◌≡◌, ◌<◌, ◌^◌, IfOk, length, map};
-ghost use Rattle.std.specs.List.{All};
-ghost use Rattle.pl_base.specs.Answers.{Answers, because};
-ghost use Rattle.pl_cone.specs.Faulted.{is_memory, of_plan};
+ghost use Rattle.std.specs.Prelude.{◌≡◌, ◌<◌, IfOk, length, map};
+ghost use Rattle.pl_base.specs.Answers.{Answers};
+ghost use Rattle.pl_cone.specs.Faulted.{is_memory};
 ghost use Rattle.pl_cone.specs.Slots as spec;
-ghost use Rattle.pl_share.specs.Disjoint.{disjoint};
-ghost use Rattle.pl_share.specs.Shared.{plan_shared};
-ghost use Rattle.pl_slots.specs.Plan.{plan};
 ghost use Rattle.pl_cone.specs.Table as columns;
 
-use crate::pushing::push_some;
 use crate::{Asked, PlanningFault, RunTable};
 use pl_base::{Rows, Text};
 use pl_io::NoMemory;
@@ -49,7 +44,6 @@ fn want_of(alloc: Global, table: &RunTable<'_>, row: usize) -> Result<Option<Wan
     }))
 }
 
-/// Adds what a row wants, if anything.
 fn add_want(wanting: &mut Wanting, want: Option<Want>) -> Result<(), NoMemory>
     ensures { spec.AddsWant want wanting.old wanting.new result }
 {
@@ -65,7 +59,6 @@ fn add_want(wanting: &mut Wanting, want: Option<Want>) -> Result<(), NoMemory>
     Ok(())
 }
 
-/// What all want.
 fn wanting_of(alloc: Global, table: &RunTable<'_>) -> Result<Wanting, NoMemory>
     requires { columns.IsRunTableOfSome table.now }
     ensures { IfOk result (spec.IsWanting table.now) }
@@ -81,8 +74,6 @@ fn wanting_of(alloc: Global, table: &RunTable<'_>) -> Result<Wanting, NoMemory>
     Ok(wanting)
 }
 
-// ---- slots that walks may share
-
 /// The positions of the rows of a walk that want slots.
 fn positions_in(
     alloc: Global,
@@ -94,7 +85,9 @@ fn positions_in(
 {
     let mut all = Rows::new(alloc);
     for row in walk {
-        push_some(&mut all, positions[*row as usize])?;
+        if let Some(position) = positions[*row as usize] {
+            all.push(position)?;
+        }
     }
     Ok(all)
 }
@@ -114,39 +107,6 @@ fn table_walks(alloc: Global, table: &RunTable<'_>, wanting: &Wanting) -> Result
     Ok(Walks { rows })
 }
 
-// ---- all slots
-
-/// Slots of which no two share an address.
-fn apart_slots(
-    alloc: Global,
-    asked: &Asked<'_>,
-    wants: &[Want],
-) -> Result<Rows<Slot>, PlanningFault>
-    requires { All (λ w. 0 < w.align) wants.now }
-    ensures value { Answers is_memory result (because of_plan
-        (plan (disjoint asked.now.rows.now wants.now asked.now.region)
-        wants.now asked.now.region)) }
-    ensures names { IfOk result (spec.HaveNamesIf wants.now) }
-{
-    let kept = disjoint(alloc, asked.rows, wants, asked.region)?;
-    Ok(plan(alloc, kept.as_slice(), wants, asked.region)?)
-}
-
-/// Slots of which two may share addresses that no walk holds together.
-fn shared_slots(
-    alloc: Global,
-    asked: &Asked<'_>,
-    wants: &[Want],
-    walks: &Walks,
-) -> Result<Rows<Slot>, PlanningFault>
-    requires { All (λ w. 0 < w.align) wants.now }
-    ensures value { Answers is_memory result (because of_plan
-        (plan_shared asked.now.rows.now wants.now walks.now.rows asked.now.region)) }
-    ensures names { IfOk result (spec.HaveNamesIf wants.now) }
-{
-    Ok(plan_shared(alloc, asked.rows, wants, walks, asked.region)?)
-}
-
 /// The slots of all that want some, in their order. Where libraries may share addresses, those may overlap that no walk holds together; else no two overlap.
 fn planned_slots(
     alloc: Global,
@@ -160,14 +120,15 @@ fn planned_slots(
     ensures names { IfOk result (spec.HaveWantedNames (spec.table_wants table.now)) }
 {
     let wants = wanting.wants.as_slice();
-    if !asked.share {
-        return apart_slots(alloc, asked, wants);
+    if asked.share {
+        let walks = table_walks(alloc, table, wanting)?;
+        Ok(plan_shared(alloc, asked.rows, wants, &walks, asked.region)?)
+    } else {
+        let kept = disjoint(alloc, asked.rows, wants, asked.region)?;
+        Ok(plan(alloc, kept.as_slice(), wants, asked.region)?)
     }
-    let walks = table_walks(alloc, table, wanting)?;
-    shared_slots(alloc, asked, wants, &walks)
 }
 
-/// The start of a slot by its position, 0 where there is none.
 fn start_of(slots: &[Slot], position: Option<u32>) -> u64
     ensures { result ≡ spec.start_at slots.now position }
 {

@@ -29,9 +29,7 @@ fn mark_of(entry: &Entry) -> Option<&Marked>
 {
     match entry {
         Entry::There(File::Marked(marked)) => Some(marked),
-        Entry::There(File::Plain(_)) => None,
-        Entry::BadMark => None,
-        Entry::Refused { .. } => None,
+        Entry::There(File::Plain(_)) | Entry::BadMark | Entry::Refused { .. } => None,
     }
 }
 

@@ -12,7 +12,6 @@ use pl_io::NoMemory;
 use pl_object::{Object, Refusal};
 use std::alloc::Global;
 
-/// Rows with no room behind them.
 fn trimmed<T>(rows: Rows<T>) -> Rows<T>
     ensures { result ≡ rows }
 {
@@ -84,7 +83,6 @@ fn fault_of(object: &Object, region: Range) -> Option<u32>
     }
 }
 
-/// The number of the first form fault of a file's original under a region of slots.
 fn fault_of_entry(entry: &Entry, region: Range) -> Option<u32>
     ensures { result ≡ spec.fault_of_entry region entry.now }
 {

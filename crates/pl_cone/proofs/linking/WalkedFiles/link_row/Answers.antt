@@ -1,0 +1,21 @@
+use Rattle.std.proofs.Common.{◌<◌, length, sym, ◌∙◌, arith}
+use Rattle.pl_cone.proofs.LinkedLaws.{cause_read, none_read}
+use Rattle.pl_cone.proofs.LinkingLaws.{cause_put, link_put, row_walk, skip_put}
+use Rattle.pl_cone.proofs.linking.WalkedFiles.link_row.Goals as goal
+
+pub returns-then-is_some : goal.returns-then-is_some
+returns-then-is_some c =
+    let lt : c.args.row < length c.args.linked.now.causes.items = omega (arith, c.requires.linked.within, c.requires.linked.sized.causes) in
+    let p = cause_read c.args.linked.now c.args.row c.index.result.now lt c.index.ensures (sym c.is_some.ensures ∙ c.if-is_some.true) in
+    cause_put c.args.self.now c.args.linked.now c.args.row p.0 c.requires.linked p.1
+
+pub link_of-requires-clause-row : goal.link_of-requires-clause-row
+link_of-requires-clause-row c =
+    let lt : c.args.row < length c.args.linked.now.causes.items = omega (arith, c.requires.linked.within, c.requires.linked.sized.causes) in
+    row_walk c.args.self.now c.args.linked.now c.args.row c.requires.walked c.requires.linked.unlinked c.requires.linked.within (none_read c.args.linked.now c.args.row c.index.result.now lt c.index.ensures (sym c.is_some.ensures ∙ c.if-is_some.false))
+
+pub link_of-requires-clause-links : goal.link_of-requires-clause-links
+link_of-requires-clause-links c = rw c.deref.ensures.value (record { sized = c.requires.linked.sized.links; libraries = c.requires.linked.libraries })
+
+pub returns : goal.returns
+returns c = ?
