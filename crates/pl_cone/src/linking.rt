@@ -81,20 +81,17 @@ pub fn library_link(alloc: Global, own: &WalkScope<'_>, index: &Index) -> Result
     if relocs.len() > u32::MAX as usize {
         return Err(NoMemory);
     }
-    let mut all = Rows::new(alloc);
+    let mut found = Rows::new(alloc);
     let mut remaining = Rows::new(alloc);
     for number in 0..relocs.len() {
         let reloc = &relocs[number];
-        let found = sought(&own.scope, reference_of(0, reloc), &among);
-        if !gives_one_word(index, &own.scope, reloc, found) {
+        let symbol = sought(&own.scope, reference_of(0, reloc), &among);
+        if !gives_one_word(index, &own.scope, reloc, symbol) {
             remaining.push(number as u32)?;
         }
-        all.push(found)?;
+        found.push(symbol)?;
     }
-    Ok(Link {
-        found: all,
-        remaining,
-    })
+    Ok(Link { found, remaining })
 }
 
 /// What the relocations of a program, the first member of its walk, find there; or the first of the walk that has no value, or that thread-local storage is too large.
@@ -120,11 +117,9 @@ fn program_link(
         among: own.among(index),
     };
     let found = linking.first_found(alloc)?;
+    let remaining = Rows::new(alloc);
     match linking.others_have_values(walk, links) {
-        Ok(()) => Ok(Link {
-            found,
-            remaining: Rows::new(alloc),
-        }),
+        Ok(()) => Ok(Link { found, remaining }),
         Err(fault) => Err(linking.refused(alloc, fault)?),
     }
 }
@@ -196,10 +191,8 @@ impl WalkedFiles<'_> {
                 remaining: Rows::new(alloc),
             })?;
         }
-        let mut linked = Linked {
-            links,
-            causes: causes.into_vec(),
-        };
+        let causes = causes.into_vec();
+        let mut linked = Linked { links, causes };
         self.link_rows(alloc, &mut linked, true)?;
         self.link_rows(alloc, &mut linked, false)?;
         Ok(linked)

@@ -105,10 +105,9 @@ pub fn needs_of<'f>(alloc: Global, files: &'f [Taken]) -> Result<Needs<'f>, NoMe
     ensures files { IfOk result (λ needs. needs.files.now ≡ files.now) }
     ensures needs { IfOk result spec.AreNeeds }
 {
-    let mut numbering = Numbering {
-        numbers: BTreeMap::new(alloc),
-        names: Vec::new(alloc),
-    };
+    let numbers = BTreeMap::new(alloc);
+    let names = Vec::new(alloc);
+    let mut numbering = Numbering { numbers, names };
     numbering.number_files(files)?;
     let needed = numbering.all_needed(alloc, files)?;
     let Numbering { names, .. } = numbering;

@@ -69,14 +69,8 @@ impl WalkLinking<'_, '_> {
         ensures found { IfOk result (IsSought (spec.objects_of self.now)
             (reference member reloc.now)) }
     {
-        let WalkLinking {
-            scope,
-            places,
-            modules,
-            among,
-        } = self;
-        let found = sought(scope, reference_of(member, reloc), among);
-        word_of(scope, places, modules, member, reloc, found)?;
+        let found = sought(self.scope, reference_of(member, reloc), &self.among);
+        word_of(self.scope, self.places, self.modules, member, reloc, found)?;
         Ok(found)
     }
 

@@ -14,8 +14,8 @@ use Rattle.pl_cone.proofs.StepLaws.{zip_more}
 use Rattle.pl_cone.proofs.linking.library_link.Goals.{then-not-gives_one_word+in_ok-push, else-not-gives_one_word}
 use Rattle.pl_cone.proofs.linking.library_link.Goals as goal
 
-pub sought-found-requires-clause-reference : goal.sought-found-requires-clause-reference
-sought-found-requires-clause-reference c =
+pub sought-symbol-requires-clause-reference : goal.sought-symbol-requires-clause-reference
+sought-symbol-requires-clause-reference c =
     let all = subst (λ (rs : List Reloc). All (λ r. IsSymbol (objects c.args.own.now.scope) 0 r.symbol) rs) (sym c.as_slice-relocs.ensures) (all_symbols (objects c.args.own.now.scope) 0 c.object.result.now c.object.ensures.fit c.object.ensures.object) in
     rw c.reference_of.ensures (all c.loop-number.number _ c.loop-number-test.true)
 
@@ -31,7 +31,7 @@ loop-number-preserved c =
     let lt : number < length relocs = c.loop-number-test.true in
     let gives = GivesOneWordOf c.args.index.now (objects c.args.own.now.scope) relocs in
     record {
-      found = zip_more (λ r f. IsSought (objects c.args.own.now.scope) (reference 0 r) f) relocs number _ c.loop-number.all _ _ lt c.loop-number.invariant.found (rw c.reference_of.ensures at c.sought-found.ensures) c.in_ok-push-2.ensures.ok;
+      found = zip_more (λ r f. IsSought (objects c.args.own.now.scope) (reference 0 r) f) relocs number _ c.loop-number.found _ _ lt c.loop-number.invariant.found (rw c.reference_of.ensures at c.sought-symbol.ensures) c.in_ok-push-2.ensures.ok;
       remaining = elim c.if-not-gives_one_word.branch [
         | then-not-gives_one_word+in_ok-push w ↦
             rw w.remaining-is (subst (λ (ks : List ℕ). HoldsBetween gives (number + 1) 0 ks) (sym w.in_ok-push.ensures.ok) (between_pushed gives number 0 c.loop-number.remaining (omega arith) c.loop-number.invariant.remaining))

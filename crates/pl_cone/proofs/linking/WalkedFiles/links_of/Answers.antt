@@ -9,7 +9,7 @@ use Rattle.pl_cone.proofs.linking.WalkedFiles.links_of.Goals as goal
 
 pub link_rows-requires-clause-linked : goal.link_rows-requires-clause-linked
 link_rows-requires-clause-linked c =
-    let told = c.into_vec.ensures ∙ c.requires.causes in
+    let told = c.into_vec-causes.ensures ∙ c.requires.causes in
     passes_begin c.args.self.now _
     (record {
       links = omega arith;

@@ -2,7 +2,7 @@ use Rattle.std.proofs.Common.{subst, ap, ◌∙◌}
 use Rattle.pl_base.specs.Bytes.{IsBytes}
 use Rattle.pl_cone.specs.Taken.{entry_in}
 use Rattle.pl_cone.proofs.TakenLaws.{taken_made, taken_is}
-use Rattle.pl_cone.proofs.taking.take_file.Goals as goal
+use Rattle.pl_cone.proofs.taken.take_file.Goals as goal
 
 pub returns-clause-value : goal.returns-clause-value
 returns-clause-value c =
