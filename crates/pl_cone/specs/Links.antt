@@ -14,7 +14,7 @@ use Rattle.pl_cone.specs.declared.values.WalkLinking.{WalkLinking}
 use Rattle.pl_object.specs.declared.object.Object.{Object}
 use Rattle.pl_object.specs.declared.reloc.Reloc.{Reloc}
 use Rattle.pl_scope.specs.Folder.{IsIndexAmong}
-use Rattle.pl_scope.specs.Scope.{objects, IsSymbol}
+use Rattle.pl_scope.specs.Scope.{objects}
 use Rattle.pl_scope.specs.Walk.{Walked}
 use Rattle.pl_scope.specs.declared.found.Found.{Found}
 use Rattle.pl_scope.specs.declared.index.Entry.{Entry}
@@ -47,10 +47,6 @@ objects_of l = objects l.scope.now
 pub record IsLinking (l : WalkLinking) : Type 0 where
   pub one_each : length l.places.now ≡ length l.scope.now
   pub index : IsIndexAmong (objects_of l) l.among
-
--- relocations of a member refer to its symbols
-abbrev pub AreReferences : WalkLinking → ℕ → List Reloc → Type 0
-AreReferences l member rs = All (λ r. IsSymbol (objects_of l) member r.symbol) rs
 
 -- that there is a value, or the refusal
 abbrev pub done : {X : Type 0} → Result X LinkFault → Result (Unit {0}) LinkFault

@@ -11,8 +11,9 @@ ghost use Rattle.pl_cone.specs.Taken.{AreTaken, WereTaken, files_in};
 use crate::currency::{run_stamp, stale_rows};
 use crate::{ConeFault, RunTable, Skip, Taken};
 use pl_base::{Rows, Text};
+use pl_io::NoMemory;
 use pl_slots::Slot;
-use std::alloc::{AllocError, Global};
+use std::alloc::Global;
 
 /// What a run rewrites.
 #[derive(Drop)]
@@ -67,7 +68,7 @@ fn place_of(slots: &[Slot], taken: &Taken) -> u64
     0
 }
 
-fn places_of(alloc: Global, slots: &[Slot], files: &[Taken]) -> Result<Rows<u64>, AllocError>
+fn places_of(alloc: Global, slots: &[Slot], files: &[Taken]) -> Result<Rows<u64>, NoMemory>
     ensures { IfOk result (λ v. v ≡ spec.places_of slots.now files.now) }
 {
     let mut places = Rows::new(alloc);
@@ -77,7 +78,7 @@ fn places_of(alloc: Global, slots: &[Slot], files: &[Taken]) -> Result<Rows<u64>
     Ok(places)
 }
 
-fn names_where(alloc: Global, files: &[Taken], stale: &[bool]) -> Result<Rows<Text>, AllocError>
+fn names_where(alloc: Global, files: &[Taken], stale: &[bool]) -> Result<Rows<Text>, NoMemory>
     requires { length stale.now ≡ length files.now }
     ensures { IfOk result (λ v. v ≡ columns.names_where files.now stale.now) }
 {

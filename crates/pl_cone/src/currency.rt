@@ -8,8 +8,9 @@ ghost use Rattle.pl_cone.specs.Skips.{stops_memory};
 use crate::{ConeFault, RunTable, Taken};
 use pl_base::Rows;
 use pl_form::{Marked, Version};
+use pl_io::NoMemory;
 use pl_lists::ListRow;
-use std::alloc::{AllocError, Global};
+use std::alloc::Global;
 
 fn is_row(taken: &Taken, row: &ListRow) -> bool
     ensures { result ≡ spec.is_row taken.now row.now }
@@ -64,7 +65,7 @@ fn is_held(files: &[Taken], walk: &[u32], place: u64) -> bool
 }
 
 /// Which files hold at these places, each looked at once.
-fn held_rows(alloc: Global, table: &RunTable<'_>, places: &[u64]) -> Result<Vec<bool>, AllocError>
+fn held_rows(alloc: Global, table: &RunTable<'_>, places: &[u64]) -> Result<Vec<bool>, NoMemory>
     requires table { columns.IsRunTableOfSome table.now }
     requires places { length places.now ≡ length table.now.files.now }
     ensures { IfOk result (λ v. v.items ≡ spec.held_rows table.now places.now) }
@@ -100,7 +101,7 @@ pub fn stale_rows(
     alloc: Global,
     table: &RunTable<'_>,
     places: &[u64],
-) -> Result<Rows<bool>, AllocError>
+) -> Result<Rows<bool>, NoMemory>
     requires table { columns.IsRunTableOfSome table.now }
     requires places { length places.now ≡ length table.now.files.now }
     ensures { IfOk result (λ stale. stale ≡ spec.stale_rows table.now places.now) }
@@ -169,7 +170,7 @@ pub fn stamps_of(
     files: &[Taken],
     stale: &[bool],
     stamp: u32,
-) -> Result<Rows<u32>, AllocError>
+) -> Result<Rows<u32>, NoMemory>
     requires { length stale.now ≡ length files.now }
     ensures { IfOk result (λ v. v ≡ spec.stamps_of files.now stale.now stamp) }
 {

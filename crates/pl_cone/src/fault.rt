@@ -6,7 +6,6 @@ use crate::ConeFault;
 use pl_base::Text;
 use pl_io::NoMemory;
 use pl_slots::PlanFault;
-use std::alloc::AllocError;
 
 /// Why a run has no plan.
 #[derive(Drop)]
@@ -34,14 +33,6 @@ impl From<NoMemory> for PlanningFault {
     ghost from_gives = { λ _ fault. fault ≡ faults.NoMemory };
 
     fn from(_: NoMemory) -> PlanningFault {
-        PlanningFault::NoMemory
-    }
-}
-
-impl From<AllocError> for PlanningFault {
-    ghost from_gives = { λ _ fault. fault ≡ faults.NoMemory };
-
-    fn from(_: AllocError) -> PlanningFault {
         PlanningFault::NoMemory
     }
 }

@@ -105,10 +105,10 @@ pub enum ConeFault {
     NoMemory,
 }
 
-impl From<AllocError> for ConeFault {
+impl From<NoMemory> for ConeFault {
     ghost from_gives = { λ _ fault. fault ≡ stops.NoMemory };
 
-    fn from(_: AllocError) -> ConeFault {
+    fn from(_: NoMemory) -> ConeFault {
         ConeFault::NoMemory
     }
 }

@@ -10,7 +10,7 @@ use pl_base::{Rows, Text};
 use pl_io::NoMemory;
 use pl_share::{Walks, disjoint, plan_shared};
 use pl_slots::{Slot, Want, plan};
-use std::alloc::{AllocError, Global};
+use std::alloc::Global;
 
 /// The libraries of a table that may be prelinked.
 #[derive(Drop)]
@@ -23,7 +23,7 @@ struct Wanting {
 }
 
 /// What the library of a row wants; None where it is none, or may not be prelinked.
-fn want_of(alloc: Global, table: &RunTable<'_>, row: usize) -> Result<Option<Want>, AllocError>
+fn want_of(alloc: Global, table: &RunTable<'_>, row: usize) -> Result<Option<Want>, NoMemory>
     requires { row < length table.now.files.now }
     ensures { IfOk result (λ want. want ≡ spec.want_at table.now row) }
 {
@@ -79,7 +79,7 @@ fn positions_in(
     alloc: Global,
     positions: &[Option<u32>],
     walk: &[u32],
-) -> Result<Rows<u32>, AllocError>
+) -> Result<Rows<u32>, NoMemory>
     requires { columns.AreBelow (length positions.now) walk.now }
     ensures { IfOk result (λ v. v ≡ spec.positions_in positions.now walk.now) }
 {
@@ -93,7 +93,7 @@ fn positions_in(
 }
 
 /// For each name that may be prelinked the positions of the libraries that its walk holds.
-fn table_walks(alloc: Global, table: &RunTable<'_>, wanting: &Wanting) -> Result<Walks, AllocError>
+fn table_walks(alloc: Global, table: &RunTable<'_>, wanting: &Wanting) -> Result<Walks, NoMemory>
     requires table { columns.IsRunTableOfSome table.now }
     requires wanting { spec.IsWanting table.now wanting.now }
     ensures { IfOk result (λ walks. walks.rows ≡ spec.table_walks table.now) }
@@ -146,7 +146,7 @@ fn places_by(
     alloc: Global,
     slots: &[Slot],
     positions: &[Option<u32>],
-) -> Result<Rows<u64>, AllocError>
+) -> Result<Rows<u64>, NoMemory>
     ensures { IfOk result (λ v. v ≡ map (spec.start_at slots.now) positions.now) }
 {
     let mut places = Rows::new(alloc);

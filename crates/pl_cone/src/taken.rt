@@ -141,26 +141,18 @@ fn entry_of(alloc: Global, bytes: &[u8]) -> Result<Entry, NoMemory>
     }
 }
 
-fn number_of(fault: FormFault) -> u32
-    ensures { result ≡ faults.number_of fault }
-{
-    match fault {
-        FormFault::NoSpareTags => 1,
-        FormFault::BssTooLarge => 2,
-        FormFault::StrayHeader => 3,
-        FormFault::InRegion => 4,
-        FormFault::LastLoadNotLast => 5,
-        FormFault::TooLarge => 6,
-        FormFault::NoMemory => 0,
-    }
-}
-
 fn fault_of(object: &Object, region: Range) -> Option<u32>
     ensures { result ≡ faults.fault_of region object.now }
 {
     match check_form(object, region) {
         Ok(()) => None,
-        Err(fault) => Some(number_of(fault)),
+        Err(FormFault::NoSpareTags) => Some(1),
+        Err(FormFault::BssTooLarge) => Some(2),
+        Err(FormFault::StrayHeader) => Some(3),
+        Err(FormFault::InRegion) => Some(4),
+        Err(FormFault::LastLoadNotLast) => Some(5),
+        Err(FormFault::TooLarge) => Some(6),
+        Err(FormFault::NoMemory) => Some(0),
     }
 }
 

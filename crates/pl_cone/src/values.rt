@@ -4,7 +4,7 @@ ghost use Rattle.pl_base.specs.Answers.{Answers};
 ghost use Rattle.pl_cone.specs.Candidates as candidates;
 ghost use Rattle.pl_cone.specs.Links as spec;
 ghost use Rattle.pl_scope.specs.Folder.{IsIndexAmong};
-ghost use Rattle.pl_scope.specs.Scope.{objects, IsSymbol};
+ghost use Rattle.pl_scope.specs.Scope.{objects, AreReferences, IsSymbol};
 ghost use Rattle.pl_tls.specs.Layout.{is_memory, offsets};
 ghost use Rattle.pl_value.specs.Definers.{IsSought};
 ghost use Rattle.pl_value.specs.Meanings as value;
@@ -99,7 +99,7 @@ impl WalkLinking<'_, '_> {
         remaining: &[u32],
     ) -> Result<(), LinkFault>
         requires linking { spec.IsLinking self.now }
-        requires references { spec.AreReferences self.now member relocs.now }
+        requires references { AreReferences self.now.scope.now member relocs.now }
         requires remaining { spec.TellsOf self.now member relocs.now remaining.now }
         ensures { result ≡ spec.rows_have_in self.now (map (value.row member) relocs.now) }
     {
