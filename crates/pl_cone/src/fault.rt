@@ -14,17 +14,13 @@ pub enum PlanningFault {
     NoSlot {
         /// The name of the library's file.
         name: Text,
-
         /// How many bytes of addresses it wants.
         span: u64,
-
         /// How many bytes the greatest hole has, 0 where there is none.
         hole: u64,
     },
-
     /// A file is stale, and the greatest stamp, which this is, is the last that there is.
     StampsSpent(u32),
-
     /// There was no memory for the answer.
     NoMemory,
 }

@@ -15,7 +15,6 @@ use std::alloc::{AllocError, Global};
 pub struct WalkScope<'f> {
     /// The members of the walk.
     pub scope: Scope<'f>,
-
     /// For each row of the folder the member that it is, if it is one.
     pub positions: Vec<Option<u32>>,
 }

@@ -17,7 +17,6 @@ use std::alloc::Global;
 struct Wanting {
     /// What they want, in the order of their rows.
     wants: Rows<Want>,
-
     /// For each row the position of its want, if it has one.
     positions: Vec<Option<u32>>,
 }
@@ -161,7 +160,6 @@ fn places_by(
 pub struct PlannedSlots {
     /// In the order of their rows.
     pub slots: Rows<Slot>,
-
     /// For each row where its slot starts, 0 where it has none.
     pub places: Rows<u64>,
 }
