@@ -168,6 +168,11 @@ pub record IsNumberWalk (n : Needs) (w : walking.NumberWalk) : Type 0 where
   pub few : length w.numbers.items ≤ 256
   pub seen : (k : ℕ) → k < length (all_names n) → IsSeen w k
 
+-- names by numbers, and a walk by them
+pub record IsUnderWay (n : Needs) (w : walking.NumberWalk) : Type 0 where
+  pub needs : AreNeeds n
+  pub walking : IsNumberWalk n w
+
 -- a name was last seen in one of the first walks
 pub record IsPast (w : walking.NumberWalk) (walks k : ℕ) : Type 0 where
   pub last : ℕ

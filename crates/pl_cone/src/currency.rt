@@ -64,7 +64,6 @@ fn is_held(files: &[Taken], walk: &[u32], place: u64) -> bool
     holds(files, &files[walk[0] as usize], others, place)
 }
 
-/// Which files hold at these places, each looked at once.
 fn held_rows(alloc: Global, table: &RunTable<'_>, places: &[u64]) -> Result<Vec<bool>, NoMemory>
     requires table { columns.IsRunTableOfSome table.now }
     requires places { length places.now ≡ length table.now.files.now }
@@ -127,7 +126,6 @@ fn greatest_in(marked: &Marked) -> u32
     most
 }
 
-/// The greatest of a first stamp and those of all marks and of their lists.
 fn greatest_of_files(last: u32, files: &[Taken]) -> u32
     ensures { result ≡ spec.greatest_of_files last files.now }
 {

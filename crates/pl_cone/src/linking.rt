@@ -144,7 +144,6 @@ impl WalkedFiles<'_> {
         }
     }
 
-    /// Links the file of a row, where its walk is not refused.
     fn link_row(&self, alloc: Global, linked: &mut Linked, row: usize) -> Result<(), NoMemory>
         requires walked { spec.IsWalked self.now }
         requires linked { spec.IsNextRow self.now row linked.old }

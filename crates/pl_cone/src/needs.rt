@@ -72,7 +72,6 @@ impl<'f> Numbering<'f> {
         Ok(told)
     }
 
-    /// For each file the numbers of the names that its object needs.
     fn all_needed(&mut self, alloc: Global, files: &'f [Taken]) -> Result<Vec<Vec<u32>>, NoMemory>
         requires { spec.IsNumbering self.old }
         ensures told { IfOk result (λ v. spec.TellAll files.now (spec.words_in self.new)

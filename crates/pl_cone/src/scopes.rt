@@ -45,7 +45,6 @@ fn no_positions(alloc: Global, count: usize) -> Result<Vec<Option<u32>>, AllocEr
     Ok(positions)
 }
 
-/// Where the rows of a folder of so many stand among some of them.
 fn positions_of(alloc: Global, count: usize, rows: &[u32]) -> Result<Vec<Option<u32>>, AllocError>
     requires within { spec.AreBelow count rows.now }
     requires few { length rows.now ≤ 256 }

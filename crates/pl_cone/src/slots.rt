@@ -21,7 +21,6 @@ struct Wanting {
     positions: Vec<Option<u32>>,
 }
 
-/// What the library of a row wants; None where it is none, or may not be prelinked.
 fn want_of(alloc: Global, table: &RunTable<'_>, row: usize) -> Result<Option<Want>, NoMemory>
     requires { row < length table.now.files.now }
     ensures { IfOk result (λ want. want ≡ spec.want_at table.now row) }
@@ -62,10 +61,9 @@ fn wanting_of(alloc: Global, table: &RunTable<'_>) -> Result<Wanting, NoMemory>
     requires { columns.IsRunTableOfSome table.now }
     ensures { IfOk result (spec.IsWanting table.now) }
 {
-    let mut wanting = Wanting {
-        wants: Rows::new(alloc),
-        positions: Vec::new(alloc),
-    };
+    let wants = Rows::new(alloc);
+    let positions = Vec::new(alloc);
+    let mut wanting = Wanting { wants, positions };
     for row in 0..table.files.len() {
         let want = want_of(alloc, table, row)?;
         add_want(&mut wanting, want)?;
@@ -73,7 +71,6 @@ fn wanting_of(alloc: Global, table: &RunTable<'_>) -> Result<Wanting, NoMemory>
     Ok(wanting)
 }
 
-/// The positions of the rows of a walk that want slots.
 fn positions_in(
     alloc: Global,
     positions: &[Option<u32>],
@@ -91,7 +88,6 @@ fn positions_in(
     Ok(all)
 }
 
-/// For each name that may be prelinked the positions of the libraries that its walk holds.
 fn table_walks(alloc: Global, table: &RunTable<'_>, wanting: &Wanting) -> Result<Walks, NoMemory>
     requires table { columns.IsRunTableOfSome table.now }
     requires wanting { spec.IsWanting table.now wanting.now }
@@ -140,7 +136,6 @@ fn start_of(slots: &[Slot], position: Option<u32>) -> u64
     }
 }
 
-/// The starts of the slots by rows.
 fn places_by(
     alloc: Global,
     slots: &[Slot],

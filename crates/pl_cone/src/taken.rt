@@ -121,7 +121,6 @@ fn trimmed_file(file: File) -> File
     }
 }
 
-/// What a file is. It fails only for want of memory.
 #[tactic(auto, unfolding(crate::specs::Taken::entry_in))]
 fn entry_of(alloc: Global, bytes: &[u8]) -> Result<Entry, NoMemory>
     requires { length bytes.now ≤ STORED }

@@ -60,7 +60,6 @@ impl WalkLinking<'_, '_> {
         Ok(Skip::Link(named))
     }
 
-    /// What a relocation of a member finds, where it has a value.
     #[tactic(auto, unfolding(pl_value::specs::Meanings::meaning))]
     fn valued(&self, member: u32, reloc: &Reloc) -> Result<Option<Found>, LinkFault>
         requires linking { spec.IsLinking self.now }

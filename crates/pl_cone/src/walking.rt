@@ -86,8 +86,7 @@ impl NumberWalk {
 
     /// Adds a name at the end, where it is new. `TooMany` comes where it would be one too many; the walk is then as before.
     fn add(&mut self, alloc: Global, needs: &Needs<'_>, number: u32) -> Result<(), Skip>
-        requires needs { spec.AreNeeds needs.now }
-        requires walking { spec.IsNumberWalk needs.now self.old }
+        requires walking { spec.IsUnderWay needs.now self.old }
         requires number { number < length (spec.all_names needs.now) }
         ensures walking { spec.IsNumberWalk needs.now self.new }
         ensures more { spec.IsMore self.old self.new }
@@ -106,8 +105,7 @@ impl NumberWalk {
     }
 
     fn append(&mut self, alloc: Global, needs: &Needs<'_>, needed: &[u32]) -> Result<(), Skip>
-        requires needs { spec.AreNeeds needs.now }
-        requires walking { spec.IsNumberWalk needs.now self.old }
+        requires walking { spec.IsUnderWay needs.now self.old }
         requires needed { spec.AreNameNumbers needs.now needed.now }
         ensures walking { spec.IsNumberWalk needs.now self.new }
         ensures more { spec.IsMore self.old self.new }
@@ -128,8 +126,7 @@ impl NumberWalk {
         index: usize,
         object: &Object,
     ) -> Result<(), Skip>
-        requires needs { spec.AreNeeds needs.now }
-        requires walking { spec.IsNumberWalk needs.now self.now }
+        requires walking { spec.IsUnderWay needs.now self.now }
         requires index { index < length self.now.numbers.items }
         requires object { spec.IsObjectAt needs.now index self.now object.now }
         ensures { Answers skip_is_memory result (spec.checked needs.now index self.now object.now) }
@@ -150,8 +147,7 @@ impl NumberWalk {
 
     /// Gives the name of an index, if there is one, its object: the names that it needs are appended.
     fn enter(&mut self, alloc: Global, needs: &Needs<'_>, index: usize) -> Result<(), Skip>
-        requires needs { spec.AreNeeds needs.now }
-        requires walking { spec.IsNumberWalk needs.now self.old }
+        requires { spec.IsUnderWay needs.now self.old }
         ensures walking { spec.IsNumberWalk needs.now self.new }
         ensures more { spec.IsMore self.old self.new }
         ensures state { AnswersAs (λ _. spec.state_after needs.now index self.new) skip_is_memory
@@ -166,7 +162,6 @@ impl NumberWalk {
         self.append(alloc, needs, needs.of_row(number))
     }
 
-    /// The rows of the members of a row's walk, or the first refusal.
     fn walk_of(&mut self, alloc: Global, needs: &Needs<'_>, row: u32) -> Result<Rows<u32>, Skip>
         requires folder { spec.AreNumberedFiles needs.now }
         requires walking { spec.MayBeginNext needs.now row self.old }

@@ -7,6 +7,9 @@ use Rattle.pl_cone.specs.Skips.{skip_is_memory}
 use Rattle.pl_cone.proofs.WalkingLaws.{more_than}
 use Rattle.pl_cone.proofs.walking.NumberWalk.append.Goals as goal
 
+pub add-requires-clause-walking : goal.add-requires-clause-walking
+add-requires-clause-walking c = record { needs = c.requires.walking.needs; walking = c.loop-number.invariant.walking }
+
 pub returns-in_err-add-clause-names : goal.returns-in_err-add-clause-names
 returns-in_err-add-clause-names c =
     let p = err_from_is_err_and c.from_residual.result c.from_residual.ensures.1 in

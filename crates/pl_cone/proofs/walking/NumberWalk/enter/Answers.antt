@@ -6,6 +6,12 @@ use Rattle.pl_cone.specs.Needs.{AreNameNumbers}
 use Rattle.pl_cone.proofs.WalkingLaws.{enter_by, enter_checks, needed_is}
 use Rattle.pl_cone.proofs.walking.NumberWalk.enter.Goals as goal
 
+pub check-requires-clause-walking : goal.check-requires-clause-walking
+check-requires-clause-walking c = c.requires
+
+pub append-requires-clause-walking : goal.append-requires-clause-walking
+append-requires-clause-walking c = c.requires
+
 pub returns-in_err-check-clause-state : goal.returns-in_err-check-clause-state
 returns-in_err-check-clause-state c =
     let w = c.args.self.now in

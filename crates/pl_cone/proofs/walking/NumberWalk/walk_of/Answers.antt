@@ -13,6 +13,9 @@ begin-requires-clause-row c = let few = files_few c.args.needs.now c.requires.fo
 pub loop-index-init : goal.loop-index-init
 loop-index-init c = under_begins c.args.needs.now c.args.row c.begin.new.self c.in_ok-begin.ensures.begun.walking c.in_ok-begin.ensures.begun.walk c.in_ok-begin.ensures.begun.numbers
 
+pub enter-requires : goal.enter-requires
+enter-requires c = record { needs = c.requires.folder.needs; walking = c.loop-index.invariant.walking }
+
 pub returns-in_err-enter-clause-err : goal.returns-in_err-enter-clause-err
 returns-in_err-enter-clause-err c =
     let n = c.args.needs.now in
