@@ -15,14 +15,12 @@ use std::alloc::Global;
 fn is_row(taken: &Taken, row: &ListRow) -> bool
     ensures { result ≡ spec.is_row taken.now row.now }
 {
-    match taken.marked() {
-        None => false,
-        Some(marked) => {
-            row.stamp == marked.stamp
-                && row.checksum == marked.checksum
-                && row.name.as_str() == taken.name.as_str()
-        }
-    }
+    let Some(marked) = taken.marked() else {
+        return false;
+    };
+    row.stamp == marked.stamp
+        && row.checksum == marked.checksum
+        && row.name.as_str() == taken.name.as_str()
 }
 
 fn lists_members(files: &[Taken], list: &[ListRow], others: &[u32]) -> bool
@@ -53,7 +51,6 @@ fn holds(files: &[Taken], taken: &Taken, others: &[u32], place: u64) -> bool
         && lists_members(files, marked.list.as_slice(), others)
 }
 
-/// Whether the file of the first of the rows of a walk is held, as `holds` says, by the others; no walk holds none.
 fn is_held(files: &[Taken], walk: &[u32], place: u64) -> bool
     requires { columns.AreRows files.now walk.now }
     ensures { result ≡ spec.is_held files.now walk.now place }
@@ -76,23 +73,18 @@ fn held_rows(alloc: Global, table: &RunTable<'_>, places: &[u64]) -> Result<Vec<
     Ok(held)
 }
 
-fn all_held(held: &[bool], walk: &[u32]) -> bool
-    requires { columns.AreBelow (length held.now) walk.now }
-    ensures { result ≡ spec.all_held held.now walk.now }
-{
-    for row in walk {
-        if !held[*row as usize] {
-            return false;
-        }
-    }
-    true
-}
-
+/// Whether the name of a row may be prelinked, and a member of its walk is not held.
 fn is_stale(table: &RunTable<'_>, held: &[bool], row: usize) -> bool
     requires { columns.AreBelow (length held.now) (columns.walk_of table.now row) }
     ensures { result ≡ spec.stale_at table.now held.now row }
 {
-    table.is_candidate(row) && !all_held(held, table.walk(row))
+    let walk = table.walk(row);
+    for member in walk {
+        if !held[*member as usize] {
+            return table.is_candidate(row);
+        }
+    }
+    false
 }
 
 /// Which names are stale, at these places, one for each row: they may be prelinked, and it is not so that each member of their walks, themselves too, has a mark as they are made now, stands at its planned slot, and has a list that tells the others.

@@ -183,10 +183,9 @@ impl WalkedFiles<'_> {
     {
         let mut links = Vec::new(alloc);
         for _row in 0..self.files.len() {
-            links.push(Link {
-                found: Rows::new(alloc),
-                remaining: Rows::new(alloc),
-            })?;
+            let found = Rows::new(alloc);
+            let remaining = Rows::new(alloc);
+            links.push(Link { found, remaining })?;
         }
         let causes = causes.into_vec();
         let mut linked = Linked { links, causes };

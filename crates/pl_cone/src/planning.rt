@@ -1,5 +1,5 @@
 // What a run plans.
-ghost use Rattle.std.specs.Prelude.{◌≡◌, IfOk};
+ghost use Rattle.std.specs.Prelude.{IfOk};
 ghost use Rattle.pl_base.specs.Answers.{AnswersAs};
 ghost use Rattle.pl_cone.specs.Faulted.{is_memory};
 ghost use Rattle.pl_cone.specs.Plans.{planned};

@@ -70,10 +70,7 @@ impl<'f> RunTable<'f> {
     pub fn is_candidate(&self, row: usize) -> bool
         ensures { result ≡ spec.is_candidate_row self.now row }
     {
-        match self.causes.as_slice().get(row) {
-            None => false,
-            Some(cause) => cause.is_none(),
-        }
+        matches!(self.causes.as_slice().get(row), Some(None))
     }
 
     /// The rows of the walk of a row; none where that is refused.

@@ -44,8 +44,7 @@ impl Taken {
         match &self.entry {
             Entry::There(File::Plain(object)) => Some(object),
             Entry::There(File::Marked(marked)) => Some(&marked.object),
-            Entry::BadMark => None,
-            Entry::Refused { .. } => None,
+            Entry::BadMark | Entry::Refused { .. } => None,
         }
     }
 
@@ -158,8 +157,7 @@ fn fault_of_entry(entry: &Entry, region: Range) -> Option<u32>
     match entry {
         Entry::There(File::Plain(object)) => fault_of(object, region),
         Entry::There(File::Marked(marked)) => fault_of(&marked.object, region),
-        Entry::BadMark => None,
-        Entry::Refused { .. } => None,
+        Entry::BadMark | Entry::Refused { .. } => None,
     }
 }
 

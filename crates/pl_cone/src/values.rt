@@ -52,7 +52,6 @@ pub struct WalkLinking<'s, 'f> {
 }
 
 impl WalkLinking<'_, '_> {
-    /// A link refusal, by names.
     pub(crate) fn refused(&self, alloc: Global, fault: LinkFault) -> Result<Skip, AllocError>
         ensures { IfOk result (λ skip. skip ≡ candidates.of_link self.now.scope.now fault) }
     {

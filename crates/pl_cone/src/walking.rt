@@ -1,5 +1,5 @@
 // The walks of all names, by the numbers of their rows.
-ghost use Rattle.std.specs.Prelude.{◌≡◌, ◌<◌, ◌≤◌, ◌+◌, Some, Ok, Err, IfOk, IfErr, OnOk, length};
+ghost use Rattle.std.specs.Prelude.{◌≡◌, ◌<◌, ◌+◌, Some, Ok, Err, IfOk, IfErr, OnOk, length};
 ghost use Rattle.pl_base.specs.Answers.{Answers, AnswersAs};
 ghost use Rattle.pl_base.specs.Each.{run};
 ghost use Rattle.pl_cone.specs.Skips.{skip_is_memory};
