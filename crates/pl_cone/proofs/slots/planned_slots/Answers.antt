@@ -30,9 +30,9 @@ apart_is : (t : RunTable) (a : Asked) (ws : List Want) (kept : List Slot) → a.
 apart_is t a ws kept share wants is = rw (is, wants) (sym (ap (chosen a (table_wants t) (table_walks t)) share))
 
 -- a plan that stops
-stops : (e : PlanFault) (fault : PlanningFault) (meant : Result (List Slot) PlanFault) → fault ≡ of_plan e → MatchBool (slots.is_memory e) ⊤ (meant ≡ Err e) → MatchBool (is_memory fault) ⊤ (because of_plan meant ≡ Err fault)
-stops (NoSlot name span hole) fault meant same is = rw same (ap (because of_plan) is)
-stops NoMemory fault meant same is = rw same tt
+stops : (e : PlanFault) (meant : Result (List Slot) PlanFault) → MatchBool (slots.is_memory e) ⊤ (meant ≡ Err e) → MatchBool (is_memory (of_plan e)) ⊤ (because of_plan meant ≡ Err (of_plan e))
+stops (NoSlot name span hole) meant same = ap (because of_plan) same
+stops NoMemory meant same = tt
 
 pub plan_shared-requires : goal.plan_shared-requires
 plan_shared-requires c = rw (c.as_slice-wants.ensures, c.requires.wanting.wants) (wants_aligned c.requires.table.0 c.args.table.now c.requires.table.1)
@@ -44,7 +44,10 @@ pub plan-requires : goal.plan-requires
 plan-requires c = rw (c.as_slice-wants.ensures, c.requires.wanting.wants) (wants_aligned c.requires.table.0 c.args.table.now c.requires.table.1)
 
 pub returns-in_err-plan_shared-clause-value : goal.returns-in_err-plan_shared-clause-value
-returns-in_err-plan_shared-clause-value c = ?
+returns-in_err-plan_shared-clause-value c =
+    let told : c.as_slice-wants.result.now ≡ table_wants c.args.table.now = c.as_slice-wants.ensures ∙ c.requires.wanting.wants in
+    let p = err_from_is_err_and c.from_residual-in_err-plan_shared.result c.from_residual-in_err-plan_shared.ensures.1 in
+    rw (p.1, p.2, ← shared_is c.args.table.now c.args.asked.now c.as_slice-wants.result.now c.in_ok-walks.walks.rows c.if-asked.true told c.in_ok-walks.ensures) (stops _ _ c.in_err-plan_shared.ensures.exact)
 
 pub returns-then-asked-clause-value : goal.returns-then-asked-clause-value
 returns-then-asked-clause-value c =
@@ -58,7 +61,10 @@ returns-then-asked-clause-names c =
     subst (λ (ws : List Want). HaveWantedNames ws c.in_ok-plan_shared.field-0) told (shared_names c.args.asked.now.region c.as_slice-wants.result.now _ (c.in_ok-plan_shared.ensures.serve spans))
 
 pub returns-in_err-plan-clause-value : goal.returns-in_err-plan-clause-value
-returns-in_err-plan-clause-value c = ?
+returns-in_err-plan-clause-value c =
+    let told : c.as_slice-wants.result.now ≡ table_wants c.args.table.now = c.as_slice-wants.ensures ∙ c.requires.wanting.wants in
+    let p = err_from_is_err_and c.from_residual-in_err-plan.result c.from_residual-in_err-plan.ensures.1 in
+    rw (p.1, p.2, ← apart_is c.args.table.now c.args.asked.now c.as_slice-wants.result.now c.as_slice.result.now c.if-asked.false told (c.as_slice.ensures ∙ c.in_ok-kept.ensures.exact)) (stops _ _ c.in_err-plan.ensures.exact)
 
 pub returns-else-asked-clause-value : goal.returns-else-asked-clause-value
 returns-else-asked-clause-value c =
