@@ -1,4 +1,4 @@
-use Rattle.std.proofs.Common.{◌∙◌, rules}
+use Rattle.std.proofs.Common.{◌∙◌}
 use Rattle.pl_base.proofs.RunLaws.{run_done}
 use Rattle.pl_cone.specs.declared.skip.Skip.TheVariants as skips
 use Rattle.pl_cone.proofs.FormedLaws.{by_row, fault_none, fault_some, formed_more, formed_stops, rows_formed}
@@ -13,7 +13,7 @@ returns-in-Some c =
 
 pub loop-row-preserved : goal.loop-row-preserved
 loop-row-preserved c =
-    formed_more c.args.files.now c.args.walk.now c.loop-row.row-index c.index-files-row.result _ c.loop-row-test.true c.requires.walk.within c.index-files-row.is (fault_none c.index-files-row.result (search rules)) c.loop-row.invariant
+    formed_more c.args.files.now c.args.walk.now c.loop-row.row-index c.index-files-row.result _ c.loop-row-test.true c.requires.walk.within c.index-files-row.is (fault_none c.index-files-row.result c.in_default.is) c.loop-row.invariant
 
 pub returns : goal.returns
 returns c = run_done (by_row c.args.files.now) tt c.args.walk.now c.loop-row.row-index _ c.loop-row-test.false c.loop-row.invariant
