@@ -17,8 +17,8 @@ use Rattle.pl_cone.proofs.scopes.scope_of.Goals.{in-Some+in_ok-name+in_ok-push, 
 use Rattle.pl_cone.proofs.scopes.scope_of.Goals as goal
 
 -- what is a member of a row's file
-is_member : (ts : List Taken) (row : ℕ) (t : Taken) (o : Option Object) → slice_get ts row ≡ Some t → object_by t.entry ≡ o → option_map {U = List ℕ × Object} (λ p. (t.name, p)) o ≡ member_of (slice_get ts row)
-is_member ts row t o at is = sym (ap member_of at ∙ ap (option_map {U = List ℕ × Object} (λ p. (t.name, p))) is)
+is_member : (ts : List Taken) (row : ℕ) (t : Taken) (o : Option Object) → slice_get ts row ≡ Some t → object_by t.entry ≡ o → option_map {U = List ℕ × Object} (λ (p : Object). (t.name, p)) o ≡ member_of (slice_get ts row)
+is_member ts row t o at is = sym (ap member_of at ∙ ap (option_map {U = List ℕ × Object} (λ (p : Object). (t.name, p))) is)
 
 pub loop-row-preserved : goal.loop-row-preserved
 loop-row-preserved c =
