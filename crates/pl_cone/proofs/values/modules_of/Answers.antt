@@ -10,11 +10,11 @@ use Rattle.pl_cone.proofs.values.modules_of.Goals as goal
 
 pub offsets-requires : goal.offsets-requires
 offsets-requires c =
-    let all = ap (λ (ms : List Member). map (λ m. m.object.now.tls) ms) (take_all c.loop-member.member-index c.members-members.result.now c.loop-member-test.false) in
+    let all = ap (λ (ms : List Member). map (λ (m : Member). m.object.now.tls) ms) (take_all c.loop-member.member-index c.members-members.result.now c.loop-member-test.false) in
     rw (c.as_slice.ensures ∙ (c.loop-member.invariant ∙ all)) (few_blocks c.members-members.result.now c.args.scope.now c.members-members.ensures.members c.members-members.ensures.scope)
 
 pub returns : goal.returns
 returns c =
-    let all = ap (λ (ms : List Member). map (λ m. m.object.now.tls) ms) (take_all c.loop-member.member-index c.members-members.result.now c.loop-member-test.false) in
+    let all = ap (λ (ms : List Member). map (λ (m : Member). m.object.now.tls) ms) (take_all c.loop-member.member-index c.members-members.result.now c.loop-member-test.false) in
     let told : c.as_slice.result.now ≡ blocks c.args.scope.now = c.as_slice.ensures ∙ (c.loop-member.invariant ∙ (all ∙ (blocks_are c.members-members.result.now ∙ ap blocks c.members-members.ensures.members))) in
     rw told at c.offsets.ensures
