@@ -116,6 +116,12 @@ FindsOwn l (Err skip) = Answers skip_is_memory (Err skip) (because (of_link l.sc
 abbrev pub TellLinks : Walked → List ℕ → List Link → Type 0
 TellLinks own walk links = (linking : WalkLinking) → linking.scope.now ≡ own → linking.places.now ≡ zeros own → TellOfOthers linking walk links
 
+-- a walk has a first member, each has a link, and those of the others tell what varies
+pub record MayLink (own : Walked) (walk : List ℕ) (links : List Link) : Type 0 where
+  pub some : 0 < length own
+  pub walk : HaveLinks own walk links
+  pub tell : TellLinks own walk links
+
 -- what its relocations find where its walk links; or the refusal
 abbrev pub LinksProgram : Walked → Result Link Skip → Type 0
 LinksProgram own (Ok l) = FindAll (objects own) l.found × ((l.remaining ≡ []) × (check_links own ≡ Ok tt))

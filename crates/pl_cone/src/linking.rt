@@ -101,9 +101,7 @@ fn program_link(
     own: &WalkScope<'_>,
 ) -> Result<Link, Skip>
     requires index { table.IsIndexOfScope own.now index.now }
-    requires some { 0 < length own.now.scope }
-    requires walk { by_walk.HaveLinks own.now.scope walk.now links.now }
-    requires links { by_walk.TellLinks own.now.scope walk.now links.now }
+    requires links { by_walk.MayLink own.now.scope walk.now links.now }
     ensures { by_walk.LinksProgram own.now.scope result }
 {
     let modules = modules_of(alloc, &own.scope)?;
@@ -114,12 +112,7 @@ fn program_link(
         modules: modules.as_slice(),
         among: own.among(index),
     };
-    let found = linking.first_found(alloc)?;
-    let remaining = Rows::new(alloc);
-    match linking.others_have_values(walk, links) {
-        Ok(()) => Ok(Link { found, remaining }),
-        Err(fault) => Err(linking.refused(alloc, fault)?),
-    }
+    linking.linked(alloc, walk, links)
 }
 
 impl WalkedFiles<'_> {

@@ -71,11 +71,7 @@ fn wanting_of(alloc: Global, table: &RunTable<'_>) -> Result<Wanting, NoMemory>
     Ok(wanting)
 }
 
-fn positions_in(
-    alloc: Global,
-    positions: &[Option<u32>],
-    walk: &[u32],
-) -> Result<Rows<u32>, NoMemory>
+fn wanted_in(alloc: Global, positions: &[Option<u32>], walk: &[u32]) -> Result<Rows<u32>, NoMemory>
     requires { columns.AreBelow (length positions.now) walk.now }
     ensures { IfOk result (λ v. v ≡ spec.positions_in positions.now walk.now) }
 {
@@ -96,7 +92,7 @@ fn table_walks(alloc: Global, table: &RunTable<'_>, wanting: &Wanting) -> Result
     let mut rows = Rows::new(alloc);
     for row in 0..table.files.len() {
         if table.is_candidate(row) {
-            rows.push(positions_in(alloc, &wanting.positions, table.walk(row))?)?;
+            rows.push(wanted_in(alloc, &wanting.positions, table.walk(row))?)?;
         }
     }
     Ok(Walks { rows })
@@ -136,11 +132,7 @@ fn start_of(slots: &[Slot], position: Option<u32>) -> u64
     }
 }
 
-fn places_by(
-    alloc: Global,
-    slots: &[Slot],
-    positions: &[Option<u32>],
-) -> Result<Rows<u64>, NoMemory>
+fn places(alloc: Global, slots: &[Slot], positions: &[Option<u32>]) -> Result<Rows<u64>, NoMemory>
     ensures { IfOk result (λ v. v ≡ map (spec.start_at slots.now) positions.now) }
 {
     let mut places = Rows::new(alloc);
@@ -170,6 +162,6 @@ pub fn slots_of(
 {
     let wanting = wanting_of(alloc, table)?;
     let slots = planned_slots(alloc, table, asked, &wanting)?;
-    let places = places_by(alloc, slots.as_slice(), &wanting.positions)?;
+    let places = places(alloc, slots.as_slice(), &wanting.positions)?;
     Ok(PlannedSlots { slots, places })
 }

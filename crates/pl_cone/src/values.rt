@@ -52,7 +52,7 @@ pub struct WalkLinking<'s, 'f> {
 }
 
 impl WalkLinking<'_, '_> {
-    pub(crate) fn refused(&self, alloc: Global, fault: LinkFault) -> Result<Skip, AllocError>
+    fn refused(&self, alloc: Global, fault: LinkFault) -> Result<Skip, AllocError>
         ensures { IfOk result (λ skip. skip ≡ candidates.of_link self.now.scope.now fault) }
     {
         let named = named_fault(alloc, self.scope.members(), fault)?;
@@ -73,7 +73,7 @@ impl WalkLinking<'_, '_> {
     }
 
     /// What each relocation of the first member finds, in their order; or the first without a value.
-    pub(crate) fn first_found(&self, alloc: Global) -> Result<Rows<Option<Found>>, Skip>
+    fn first_found(&self, alloc: Global) -> Result<Rows<Option<Found>>, Skip>
         requires linking { spec.IsLinking self.now }
         requires some { 0 < length self.now.scope.now }
         ensures { spec.FindsOwn self.now result }
@@ -110,7 +110,7 @@ impl WalkLinking<'_, '_> {
     }
 
     /// The first relocation of the members after the first without a value. `links` has the remaining ones of the file of each row of the walk.
-    pub(crate) fn others_have_values(&self, walk: &[u32], links: &[Link]) -> Result<(), LinkFault>
+    fn others_have_values(&self, walk: &[u32], links: &[Link]) -> Result<(), LinkFault>
         requires linking { spec.IsLinking self.now }
         requires walk { spec.HaveLinks self.now.scope.now walk.now links.now }
         requires links { spec.TellOfOthers self.now walk.now links.now }
@@ -122,5 +122,19 @@ impl WalkLinking<'_, '_> {
             self.member_has_values(member, relocs, remaining)?;
         }
         Ok(())
+    }
+
+    /// What the relocations of the first member find, a program that is linked at 0; or the first of the walk that has no value. A program has no remaining ones.
+    pub(crate) fn linked(&self, alloc: Global, walk: &[u32], links: &[Link]) -> Result<Link, Skip>
+        requires linking { spec.IsLinkingAtZero self.now }
+        requires links { spec.MayLink self.now.scope.now walk.now links.now }
+        ensures { spec.LinksProgram self.now.scope.now result }
+    {
+        let found = self.first_found(alloc)?;
+        let remaining = Rows::new(alloc);
+        match self.others_have_values(walk, links) {
+            Ok(()) => Ok(Link { found, remaining }),
+            Err(fault) => Err(self.refused(alloc, fault)?),
+        }
     }
 }

@@ -52,27 +52,11 @@ returns-then-is_library c = λ h.
     let library : is_library_row c.args.self.now c.args.row ≡ true = ap is_library_in h.file ∙ (ap (λ (t : Taken). is_library_entry t.entry) (sym one) ∙ (sym c.is_library.ensures ∙ c.if-is_library.true)) in
     library_found c.args.self.now c.args.row c.in_ok-library_link.field-0 c.requires.walked h library (rw same at c.in_ok-all_formed.ensures) (rw (c.in_ok-own.ensures.scope, same) at c.in_ok-library_link.ensures)
 
-pub program_link-requires-clause-some : goal.program_link-requires-clause-some
-program_link-requires-clause-some c =
-    let h = c.requires.row in
-    let same = c.as_slice-walk.ensures ∙ (sym c.index-self-row-2.is ∙ walk_is c.args.self.now c.args.row h c.index-self-row-2.result c.index-self-row-2.is) in
-    rw (c.in_ok-own.ensures.scope, same) (walk_some c.args.self.now.files.now h.taken.name (walked_by c.args.self.now.files.now h.rows) h.told)
-
 pub program_link-requires-clause-index : goal.program_link-requires-clause-index
 program_link-requires-clause-index c =
     let h = c.requires.row in
     let same = c.as_slice-walk.ensures ∙ (sym c.index-self-row-2.is ∙ walk_is c.args.self.now c.args.row h c.index-self-row-2.result c.index-self-row-2.is) in
     index_among c.args.self.now.files.now h.rows c.args.self.now.index.now c.in_ok-own.own (rows_are c.args.self.now c.args.row c.requires.walked h) (rows_once c.args.self.now c.args.row c.requires.walked h) c.requires.walked.index (rw same at c.in_ok-own.ensures)
-
-pub program_link-requires-clause-walk : goal.program_link-requires-clause-walk
-program_link-requires-clause-walk c =
-    let h = c.requires.row in
-    let same = c.as_slice-walk.ensures ∙ (sym c.index-self-row-2.is ∙ walk_is c.args.self.now c.args.row h c.index-self-row-2.result c.index-self-row-2.is) in
-    let rows = rows_are c.args.self.now c.args.row c.requires.walked h in
-    rw (c.in_ok-own.ensures.scope, same) (record {
-      each = sym rows.each;
-      within = subst (λ (count : ℕ). All (λ r. r < count) h.rows) (sym c.requires.links.sized) rows.within;
-    })
 
 pub program_link-requires-clause-links : goal.program_link-requires-clause-links
 program_link-requires-clause-links c =
@@ -81,7 +65,15 @@ program_link-requires-clause-links c =
     let one = sym c.index-self-row.is ∙ taken_is c.args.self.now c.args.row h c.index-self-row.result c.index-self-row.is in
     let also : is_static_entry h.taken.entry ≡ false = ap (λ (t : Taken). is_static_entry t.entry) (sym one) ∙ (sym c.is_static.ensures ∙ c.if-is_static.false) in
     let out : is_library_row c.args.self.now c.args.row ≡ false = ap is_library_in h.file ∙ (ap (λ (t : Taken). is_library_entry t.entry) (sym one) ∙ (sym c.is_library.ensures ∙ c.if-is_library.false)) in
-    rw (c.in_ok-own.ensures.scope, same) (program_tells c.requires.walked.taken.0 c.args.self.now c.requires.walked c.requires.walked.taken.1 c.args.row h (program_first c.args.self.now c.args.row c.requires.walked h out also) (rw same at c.in_ok-all_formed.ensures) c.args.links.now (c.requires.links.libraries out))
+    let rows = rows_are c.args.self.now c.args.row c.requires.walked h in
+    rw (c.in_ok-own.ensures.scope, same) (record {
+      some = walk_some c.args.self.now.files.now h.taken.name (walked_by c.args.self.now.files.now h.rows) h.told;
+      walk = record {
+        each = sym rows.each;
+        within = subst (λ (count : ℕ). All (λ r. r < count) h.rows) (sym c.requires.links.sized) rows.within;
+      };
+      tell = program_tells c.requires.walked.taken.0 c.args.self.now c.requires.walked c.requires.walked.taken.1 c.args.row h (program_first c.args.self.now c.args.row c.requires.walked h out also) (rw same at c.in_ok-all_formed.ensures) c.args.links.now (c.requires.links.libraries out);
+    })
 
 pub returns-else-is_library : goal.returns-else-is_library
 returns-else-is_library c = λ h.

@@ -4,7 +4,7 @@ use Rattle.std.proofs.lemmas.List.{append-nil}
 use Rattle.std.proofs.lemmas.Option.{slice_get-get_or}
 use Rattle.pl_cone.specs.Slots.{joined}
 use Rattle.pl_cone.proofs.ListLaws.{made_more}
-use Rattle.pl_cone.proofs.slots.positions_in.Goals as goal
+use Rattle.pl_cone.proofs.slots.wanted_in.Goals as goal
 
 pub loop-row-preserved : goal.loop-row-preserved
 loop-row-preserved c =
