@@ -1,6 +1,7 @@
-use Rattle.std.proofs.Common.{◌<◌, length, sym, ◌∙◌, arith}
+use Rattle.std.proofs.Common.{◌<◌, length, refl, sym, ◌∙◌, arith, rules}
 use Rattle.pl_cone.proofs.LinkedLaws.{cause_read, none_read}
 use Rattle.pl_cone.proofs.LinkingLaws.{cause_put, link_put, row_walk, skip_put}
+use Rattle.pl_cone.proofs.linking.WalkedFiles.link_row.Goals.{in-Ok, in-Err}
 use Rattle.pl_cone.proofs.linking.WalkedFiles.link_row.Goals as goal
 
 pub returns-then-is_some : goal.returns-then-is_some
@@ -18,4 +19,12 @@ pub link_of-requires-clause-links : goal.link_of-requires-clause-links
 link_of-requires-clause-links c = rw c.deref.ensures.value (record { sized = c.requires.linked.sized.links; libraries = c.requires.linked.libraries })
 
 pub returns : goal.returns
-returns c = ?
+returns c =
+    let w = c.args.self.now in
+    let lt : c.args.row < length c.args.linked.now.causes.items = omega (arith, c.requires.linked.within, c.requires.linked.sized.causes) in
+    let none = none_read c.args.linked.now c.args.row c.index.result.now lt c.index.ensures (sym c.is_some.ensures ∙ c.if-is_some.false) in
+    let h = row_walk w c.args.linked.now c.args.row c.requires.walked c.requires.linked.unlinked c.requires.linked.within none in
+    elim c.match-link_of.branch [
+      | in-Ok v ↦ rw v.linked-is (link_put w c.args.linked.now _ c.args.row v.in-Ok.link c.requires.linked none h v.in-Ok.ensures refl refl)
+      | in-Err v ↦ rw v.linked-is (skip_put w c.args.linked.now _ c.args.row v.in-Err.skip c.requires.linked h v.in-Err.ensures (search rules) refl refl)
+    ]
