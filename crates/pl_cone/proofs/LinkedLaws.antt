@@ -152,12 +152,14 @@ pass_skips false false w l row lt is apart have = absurd (apart refl)
 
 pub pass_row : (libraries : Bool) (w : walked.WalkedFiles) (l : Linked) (row : ℕ) → IsWalked w → row < length w.files.now → is_library_row w row ≡ libraries → HaveLinked libraries w row l → IsNextRow w row l
 pass_row true w l row is lt library have = record {
+  walked = is;
   within = lt;
   sized = have.sized;
   unlinked = library_unlinked w l row lt have;
   libraries = λ none. absurd (false≢true (sym none ∙ library));
 }
 pass_row false w l row is lt other have = record {
+  walked = is;
   within = lt;
   sized = have.sized;
   unlinked = other_unlinked w l row lt other have;

@@ -68,8 +68,10 @@ LinksRow w row result = (h : HasWalk w row) → LinksBy w h.rows (fits w h.taken
 abbrev pub AreLibraryLinks : walked.WalkedFiles → List Link → Type 0
 AreLibraryLinks w links = (row : ℕ) (l : Link) (h : HasWalk w row) → is_library_row w row ≡ true → fits w h.taken h.rows ≡ Ok tt → slice_get links row ≡ Some l → IsLinkOf w.index.now (walked_by w.files.now h.rows) l
 
--- there is a link for each row, and of what is no library those of the libraries tell what varies
-pub record HaveLibraries (w : walked.WalkedFiles) (row : ℕ) (links : List Link) : Type 0 where
+-- a row has a walk, there is a link for each row, and those of the libraries tell what varies, if it is another's
+pub record MayLinkRow (w : walked.WalkedFiles) (row : ℕ) (links : List Link) : Type 0 where
+  pub walked : IsWalked w
+  pub row : HasWalk w row
   pub sized : length links ≡ length w.files.now
   pub libraries : is_library_row w row ≡ false → AreLibraryLinks w links
 
@@ -115,6 +117,7 @@ HaveLinked libraries w count l = HaveDone w (done_to libraries w count) l
 
 -- a row comes next: those of the libraries are linked, if it is another's
 pub record IsNextRow (w : walked.WalkedFiles) (row : ℕ) (l : Linked) : Type 0 where
+  pub walked : IsWalked w
   pub within : row < length w.files.now
   pub sized : IsSized w l
   pub unlinked : IsRowUnlinked w l row

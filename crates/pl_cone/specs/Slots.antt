@@ -4,7 +4,7 @@ use Rattle.std.specs.List.{filter_map, cons_option, range_with_len}
 use Rattle.pl_base.specs.Answers.{Answers, because}
 use Rattle.pl_cone.specs.Faulted.{is_memory, of_plan}
 use Rattle.pl_cone.specs.Plans.{start_of, want_of}
-use Rattle.pl_cone.specs.Table.{is_candidate_row, rows_of, walk_of}
+use Rattle.pl_cone.specs.Table.{IsRunTableOfSome, is_candidate_row, rows_of, walk_of}
 use Rattle.pl_cone.specs.Taken.{object_by}
 use Rattle.pl_cone.specs.declared.planning.Asked.{Asked}
 use Rattle.pl_cone.specs.declared.fault.PlanningFault.{PlanningFault}
@@ -64,6 +64,11 @@ positions t = map (position_at t) (rows_of t)
 pub record IsWanting (t : RunTable) (w : Wanting) : Type 0 where
   pub wants : w.wants ≡ table_wants t
   pub positions : w.positions.items ≡ positions t
+
+-- a table, and what its rows want
+pub record IsWantedBy (t : RunTable) (w : Wanting) : Type 0 where
+  pub table : IsRunTableOfSome t
+  pub wanting : IsWanting t w
 
 -- ---- walks
 

@@ -62,8 +62,7 @@ fn is_held(files: &[Taken], walk: &[u32], place: u64) -> bool
 }
 
 fn held_rows(alloc: Global, table: &RunTable<'_>, places: &[u64]) -> Result<Vec<bool>, NoMemory>
-    requires table { columns.IsRunTableOfSome table.now }
-    requires places { length places.now ≡ length table.now.files.now }
+    requires { spec.HavePlaces table.now places.now }
     ensures { IfOk result (λ v. v.items ≡ spec.held_rows table.now places.now) }
 {
     let mut held = Vec::new(alloc);
@@ -73,7 +72,6 @@ fn held_rows(alloc: Global, table: &RunTable<'_>, places: &[u64]) -> Result<Vec<
     Ok(held)
 }
 
-/// Whether the name of a row may be prelinked, and a member of its walk is not held.
 fn is_stale(table: &RunTable<'_>, held: &[bool], row: usize) -> bool
     requires { columns.AreBelow (length held.now) (columns.walk_of table.now row) }
     ensures { result ≡ spec.stale_at table.now held.now row }
@@ -93,8 +91,7 @@ pub fn stale_rows(
     table: &RunTable<'_>,
     places: &[u64],
 ) -> Result<Rows<bool>, NoMemory>
-    requires table { columns.IsRunTableOfSome table.now }
-    requires places { length places.now ≡ length table.now.files.now }
+    requires { spec.HavePlaces table.now places.now }
     ensures { IfOk result (λ stale. stale ≡ spec.stale_rows table.now places.now) }
 {
     let held = held_rows(alloc, table, places)?;

@@ -1,5 +1,5 @@
 // Which names may be prelinked, and what their relocations find.
-ghost use Rattle.std.specs.Prelude.{◌≡◌, ◌<◌, IfOk, OnOk, length};
+ghost use Rattle.std.specs.Prelude.{◌≡◌, ◌<◌, [], IfOk, OnOk, length};
 ghost use Rattle.pl_base.specs.Answers.{Answers};
 ghost use Rattle.pl_cone.specs.Candidates as candidates;
 ghost use Rattle.pl_cone.specs.Linking as spec;
@@ -24,6 +24,18 @@ pub struct Link {
     pub found: Rows<Option<Found>>,
     /// Of a library the indexes, ascending, of those that are not known to give the same in every walk which holds the library. A program has none.
     pub remaining: Rows<u32>,
+}
+
+impl Link {
+    /// Of no relocations.
+    pub fn none(alloc: Global) -> Link
+        ensures found { result.found ≡ [] }
+        ensures remaining { result.remaining ≡ [] }
+    {
+        let found = Rows::new(alloc);
+        let remaining = Rows::new(alloc);
+        Link { found, remaining }
+    }
 }
 
 /// The files of a folder with their walks, and the index of what they define.
@@ -118,9 +130,7 @@ fn program_link(
 impl WalkedFiles<'_> {
     /// What the own relocations of a row's file find; or the first cause why its name may not be prelinked. For a program `links` has those of all libraries that may be prelinked.
     fn link_of(&self, alloc: Global, links: &[Link], row: usize) -> Result<Link, Skip>
-        requires walked { spec.IsWalked self.now }
-        requires row { spec.HasWalk self.now row }
-        requires links { spec.HaveLibraries self.now row links.now }
+        requires { spec.MayLinkRow self.now row links.now }
         ensures { spec.LinksRow self.now row result }
     {
         let taken = &self.files[row];
@@ -138,8 +148,7 @@ impl WalkedFiles<'_> {
     }
 
     fn link_row(&self, alloc: Global, linked: &mut Linked, row: usize) -> Result<(), NoMemory>
-        requires walked { spec.IsWalked self.now }
-        requires linked { spec.IsNextRow self.now row linked.old }
+        requires { spec.IsNextRow self.now row linked.old }
         ensures { OnOk result (spec.IsPut self.now linked.old linked.new row) }
     {
         if linked.causes[row].is_some() {
@@ -176,9 +185,7 @@ impl WalkedFiles<'_> {
     {
         let mut links = Vec::new(alloc);
         for _row in 0..self.files.len() {
-            let found = Rows::new(alloc);
-            let remaining = Rows::new(alloc);
-            links.push(Link { found, remaining })?;
+            links.push(Link::none(alloc))?;
         }
         let causes = causes.into_vec();
         let mut linked = Linked { links, causes };

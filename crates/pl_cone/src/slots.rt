@@ -85,8 +85,7 @@ fn wanted_in(alloc: Global, positions: &[Option<u32>], walk: &[u32]) -> Result<R
 }
 
 fn table_walks(alloc: Global, table: &RunTable<'_>, wanting: &Wanting) -> Result<Walks, NoMemory>
-    requires table { columns.IsRunTableOfSome table.now }
-    requires wanting { spec.IsWanting table.now wanting.now }
+    requires { spec.IsWantedBy table.now wanting.now }
     ensures { IfOk result (λ walks. walks.rows ≡ spec.table_walks table.now) }
 {
     let mut rows = Rows::new(alloc);
@@ -105,8 +104,7 @@ fn planned_slots(
     asked: &Asked<'_>,
     wanting: &Wanting,
 ) -> Result<Rows<Slot>, PlanningFault>
-    requires table { columns.IsRunTableOfSome table.now }
-    requires wanting { spec.IsWanting table.now wanting.now }
+    requires { spec.IsWantedBy table.now wanting.now }
     ensures value { Answers is_memory result (spec.table_slots table.now asked.now) }
     ensures names { IfOk result (spec.HaveWantedNames (spec.table_wants table.now)) }
 {

@@ -72,7 +72,6 @@ impl WalkLinking<'_, '_> {
         Ok(found)
     }
 
-    /// What each relocation of the first member finds, in their order; or the first without a value.
     fn first_found(&self, alloc: Global) -> Result<Rows<Option<Found>>, Skip>
         requires linking { spec.IsLinking self.now }
         requires some { 0 < length self.now.scope.now }

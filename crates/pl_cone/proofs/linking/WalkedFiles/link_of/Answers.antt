@@ -70,9 +70,9 @@ program_link-requires-clause-links c =
       some = walk_some c.args.self.now.files.now h.taken.name (walked_by c.args.self.now.files.now h.rows) h.told;
       walk = record {
         each = sym rows.each;
-        within = subst (λ (count : ℕ). All (λ r. r < count) h.rows) (sym c.requires.links.sized) rows.within;
+        within = subst (λ (count : ℕ). All (λ r. r < count) h.rows) (sym c.requires.sized) rows.within;
       };
-      tell = program_tells c.requires.walked.taken.0 c.args.self.now c.requires.walked c.requires.walked.taken.1 c.args.row h (program_first c.args.self.now c.args.row c.requires.walked h out also) (rw same at c.in_ok-all_formed.ensures) c.args.links.now (c.requires.links.libraries out);
+      tell = program_tells c.requires.walked.taken.0 c.args.self.now c.requires.walked c.requires.walked.taken.1 c.args.row h (program_first c.args.self.now c.args.row c.requires.walked h out also) (rw same at c.in_ok-all_formed.ensures) c.args.links.now (c.requires.libraries out);
     })
 
 pub returns-else-is_library : goal.returns-else-is_library

@@ -6,25 +6,28 @@ use Rattle.pl_cone.proofs.linking.WalkedFiles.link_row.Goals as goal
 
 pub returns-then-is_some : goal.returns-then-is_some
 returns-then-is_some c =
-    let lt : c.args.row < length c.args.linked.now.causes.items = omega (arith, c.requires.linked.within, c.requires.linked.sized.causes) in
+    let lt : c.args.row < length c.args.linked.now.causes.items = omega (arith, c.requires.within, c.requires.sized.causes) in
     let p = cause_read c.args.linked.now c.args.row c.index.result.now lt c.index.ensures (sym c.is_some.ensures ∙ c.if-is_some.true) in
-    cause_put c.args.self.now c.args.linked.now c.args.row p.0 c.requires.linked p.1
+    cause_put c.args.self.now c.args.linked.now c.args.row p.0 c.requires p.1
 
-pub link_of-requires-clause-row : goal.link_of-requires-clause-row
-link_of-requires-clause-row c =
-    let lt : c.args.row < length c.args.linked.now.causes.items = omega (arith, c.requires.linked.within, c.requires.linked.sized.causes) in
-    row_walk c.args.self.now c.args.linked.now c.args.row c.requires.walked c.requires.linked.unlinked c.requires.linked.within (none_read c.args.linked.now c.args.row c.index.result.now lt c.index.ensures (sym c.is_some.ensures ∙ c.if-is_some.false))
-
-pub link_of-requires-clause-links : goal.link_of-requires-clause-links
-link_of-requires-clause-links c = rw c.deref.ensures.value (record { sized = c.requires.linked.sized.links; libraries = c.requires.linked.libraries })
+pub link_of-requires : goal.link_of-requires
+link_of-requires c =
+    let lt : c.args.row < length c.args.linked.now.causes.items = omega (arith, c.requires.within, c.requires.sized.causes) in
+    let none = none_read c.args.linked.now c.args.row c.index.result.now lt c.index.ensures (sym c.is_some.ensures ∙ c.if-is_some.false) in
+    record {
+      walked = c.requires.walked;
+      row = row_walk c.args.self.now c.args.linked.now c.args.row c.requires.walked c.requires.unlinked c.requires.within none;
+      sized = rw c.deref.ensures.value c.requires.sized.links;
+      libraries = rw c.deref.ensures.value c.requires.libraries;
+    }
 
 pub returns : goal.returns
 returns c =
     let w = c.args.self.now in
-    let lt : c.args.row < length c.args.linked.now.causes.items = omega (arith, c.requires.linked.within, c.requires.linked.sized.causes) in
+    let lt : c.args.row < length c.args.linked.now.causes.items = omega (arith, c.requires.within, c.requires.sized.causes) in
     let none = none_read c.args.linked.now c.args.row c.index.result.now lt c.index.ensures (sym c.is_some.ensures ∙ c.if-is_some.false) in
-    let h = row_walk w c.args.linked.now c.args.row c.requires.walked c.requires.linked.unlinked c.requires.linked.within none in
+    let h = row_walk w c.args.linked.now c.args.row c.requires.walked c.requires.unlinked c.requires.within none in
     elim c.match-link_of.branch [
-      | in-Ok v ↦ rw v.linked-is (link_put w c.args.linked.now _ c.args.row v.in-Ok.link c.requires.linked none h v.in-Ok.ensures refl refl)
-      | in-Err v ↦ rw v.linked-is (skip_put w c.args.linked.now _ c.args.row v.in-Err.skip c.requires.linked h v.in-Err.ensures (search rules) refl refl)
+      | in-Ok v ↦ rw v.linked-is (link_put w c.args.linked.now _ c.args.row v.in-Ok.link c.requires none h v.in-Ok.ensures refl refl)
+      | in-Err v ↦ rw v.linked-is (skip_put w c.args.linked.now _ c.args.row v.in-Err.skip c.requires h v.in-Err.ensures (search rules) refl refl)
     ]

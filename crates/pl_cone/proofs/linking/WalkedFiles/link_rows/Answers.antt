@@ -6,8 +6,8 @@ use Rattle.pl_cone.proofs.LinkedLaws.{library_read, pass_put, pass_row, pass_ski
 use Rattle.pl_cone.proofs.linking.WalkedFiles.link_rows.Goals.{then-is_library-libraries+in_ok-link_row, else-is_library-libraries}
 use Rattle.pl_cone.proofs.linking.WalkedFiles.link_rows.Goals as goal
 
-pub link_row-requires-clause-linked : goal.link_row-requires-clause-linked
-link_row-requires-clause-linked c =
+pub link_row-requires : goal.link_row-requires
+link_row-requires c =
     let library : is_library_row c.args.self.now c.loop-row.row ≡ c.is_library.result =
     library_read c.args.self.now c.loop-row.row c.index-self-row.result _ c.loop-row-test.true c.index-self-row.is (c.is_library.ensures ∙ ap (λ (t : Taken). is_library_entry t.entry) (sym c.index-self-row.is)) in
     pass_row c.args.libraries c.args.self.now c.loop-row.linked c.loop-row.row c.requires.walked c.loop-row-test.true (library ∙ c.if-is_library-libraries.true) c.loop-row.invariant
