@@ -63,3 +63,12 @@ pub formed_stops : (ts : List Taken) (walk : List ℕ) (i : ℕ) (t : Taken) (e 
 formed_stops ts walk i t e whole lt within is formed so_far =
     run_fails skip_is_memory (by_row ts) tt walk i (get_or walk i 0) e whole lt (get_or_default walk i 0 (get_or walk i 0) lt)
     (subst (λ (r : Result (Unit {0}) Skip). MatchBool (skip_is_memory e) ⊤ (r ≡ Err e)) (sym (row_formed ts (get_or walk i 0) t (within i 0 lt) is)) formed) so_far
+
+-- ---- by the fault that a file has, or none
+
+pub fault_none : (t : Taken) → t.fault ≡ None → formed_by t ≡ Ok tt
+fault_none t none = ap (λ (fault : Option ℕ). unless_found fault (skips.Form t.name) (Ok tt)) none
+
+pub fault_some : (t : Taken) (number : ℕ) (name : List ℕ) → t.fault ≡ Some number → name ≡ t.name → formed_by t ≡ Err (skips.Form name number)
+fault_some t number name some same =
+    ap (λ (fault : Option ℕ). unless_found fault (skips.Form t.name) (Ok tt)) some ∙ ap (λ (n : List ℕ). Err (skips.Form n number)) (sym same)

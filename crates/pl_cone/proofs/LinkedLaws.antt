@@ -1,17 +1,17 @@
 -- Libraries are linked first, and then the others: what is done up to a row.
-use Rattle.std.proofs.Common.{◌≡◌, ◌≢◌, ℕ, ◌+◌, ◌<◌, ◌≤◌, Bool, true, false, List, length, get_or, Option, Some, None, Result, Ok, Err, refl, sym, ap, subst, ◌∙◌, arith}
-use Rattle.std.specs.Prelude.{◌&&◌, ◌||◌, MatchBool, OnOk, ⊤, is_some, nat_lt, slice_get}
+use Rattle.std.proofs.Common.{◌≡◌, ◌≢◌, ℕ, ◌+◌, ◌<◌, ◌≤◌, Bool, true, false, List, length, get_or, Option, Some, None, Result, Ok, Err, refl, sym, ap, subst, ◌∙◌, arith, inl, inr}
+use Rattle.std.specs.Prelude.{◌&&◌, ◌||◌, MatchBool, ⊤, is_some, nat_lt, slice_get}
+use Rattle.std.proofs.lemmas.Bool.{cases_Bool, false≢true}
 use Rattle.std.proofs.lemmas.Bool.Decides.{nat_tests}
 use Rattle.std.proofs.lemmas.Option.{get_or_from_slice_get, slice_get_read, slice_get_within}
 use Rattle.pl_base.specs.Answers.{Answers, ◌>>=◌}
 use Rattle.pl_elf.specs.declared.kind.Kind.{Kind}
 use Rattle.pl_elf.specs.declared.kind.Kind.TheVariants.{Program, Library, Static}
 use Rattle.pl_elf.specs.Kinds.{is_library, is_static}
-use Rattle.pl_io.specs.declared.no_memory.NoMemory.{NoMemory}
 use Rattle.pl_scope.specs.Members.{names}
 use Rattle.pl_scope.specs.Walk.{Walked}
 use Rattle.pl_cone.specs.Candidates.{all_formed, kind_of, check_links}
-use Rattle.pl_cone.specs.Linking.{AreLibraryLinks, AreLinked, HasWalk, HaveDone, IsRow, IsRowLinked, IsRowUnlinked, IsWalked, LinksBy, LinksRow, Puts, fits, is_library_in, is_library_row, is_static_entry, libraries_to, none_done, others_to}
+use Rattle.pl_cone.specs.Linking.{AreLibraryLinks, AreLinked, HasWalk, HaveDone, HaveLinked, IsNextRow, IsPut, IsRow, IsRowLinked, IsRowUnlinked, IsSized, IsWalked, LinksBy, fits, is_library_in, is_library_row, is_static_entry, libraries_to, others_to}
 use Rattle.pl_cone.specs.Links.{IsLinkOf, LinksProgram}
 use Rattle.pl_cone.specs.Plans.{cause_of}
 use Rattle.pl_cone.specs.Skips.{skip_is_memory}
@@ -23,7 +23,7 @@ use Rattle.pl_cone.specs.declared.linking.WalkedFiles as walked
 use Rattle.pl_cone.specs.declared.skip.Skip.{Skip}
 use Rattle.pl_cone.specs.declared.skip.Skip.TheVariants as skips
 use Rattle.pl_cone.specs.declared.taken.Taken.{Taken}
-use Rattle.pl_cone.proofs.LinkingLaws.{cause_is, done_kept, done_put, put_is, row_refused, row_walk}
+use Rattle.pl_cone.proofs.LinkingLaws.{cause_is, done_kept, done_put}
 use Rattle.pl_cone.proofs.TellLaws.{fit_library, fit_program, fit_static, library_kind, program_kind, static_kind}
 use Rattle.pl_cone.proofs.WalkLaws.{IsFirst, first_is, library_entry, static_entry}
 
@@ -53,15 +53,11 @@ have_same w d e l same have = record {
 
 -- ---- libraries
 
-none_before : (w : walked.WalkedFiles) (row : ℕ) → libraries_to w 0 row ≡ none_done row
-none_before w row = ap (λ (b : Bool). b && is_library_row w row) (lt_none row)
-
-pub libraries_begin : (w : walked.WalkedFiles) (l : Linked) → HaveDone w none_done l → HaveDone w (libraries_to w 0) l
-libraries_begin w l have = have_same w none_done (libraries_to w 0) l (λ row lt. none_before w row) have
-
-pub libraries_end : (w : walked.WalkedFiles) (count : ℕ) (l : Linked) → length w.files.now ≤ count → HaveDone w (libraries_to w count) l → HaveDone w (is_library_row w) l
-libraries_end w count l le have =
-    have_same w (libraries_to w count) (is_library_row w) l (λ row lt. sym (ap (λ (b : Bool). b && is_library_row w row) (lt_in row count (omega (arith, le, lt))))) have
+pub passes_begin : (w : walked.WalkedFiles) (l : Linked) → IsSized w l → ((row : ℕ) → row < length w.files.now → IsRowUnlinked w l row) → HaveLinked true w 0 l
+passes_begin w l sized opened = record {
+  sized = sized;
+  rows = λ row lt. subst (λ (b : Bool). IsRow b w l row) (sym (ap (λ (b : Bool). b && is_library_row w row) (lt_none row))) (opened row lt);
+}
 
 library_others : (w : walked.WalkedFiles) (row other : ℕ) → other ≢ row → libraries_to w (row + 1) other ≡ libraries_to w row other
 library_others w row other apart = ap (λ (b : Bool). b && is_library_row w other) (lt_next other row apart)
@@ -78,38 +74,17 @@ library_none w l row lt none have =
     done_kept w (libraries_to w row) (libraries_to w (row + 1)) l row have
     (subst (λ (b : Bool). IsRow b w l row) (sym (library_now w row false none)) (library_unlinked w l row lt have)) (λ other apart. library_others w row other apart)
 
--- a library whose walk is refused
-pub library_refused : (w : walked.WalkedFiles) (l : Linked) (row : ℕ) (cause : Skip) → row < length w.files.now → is_library_row w row ≡ true → slice_get l.causes.items row ≡ Some (Some cause) → HaveDone w (libraries_to w row) l → HaveDone w (libraries_to w (row + 1)) l
-library_refused w l row cause lt is told have =
-    done_kept w (libraries_to w row) (libraries_to w (row + 1)) l row have
-    (subst (λ (b : Bool). IsRow b w l row) (sym (library_now w row true is)) (row_refused w l row cause (library_unlinked w l row lt have) told)) (λ other apart. library_others w row other apart)
-
-pub library_walk : (w : walked.WalkedFiles) (l : Linked) (row : ℕ) → IsWalked w → row < length w.files.now → HaveDone w (libraries_to w row) l → slice_get l.causes.items row ≡ Some None → HasWalk w row
-library_walk w l row is lt have told = row_walk w l row is (library_unlinked w l row lt have) lt told
-
--- a library that is put in
-pub library_put : (w : walked.WalkedFiles) (before after : Linked) (row : ℕ) (made : Result Link Skip) → IsWalked w → row < length w.files.now → is_library_row w row ≡ true → slice_get before.causes.items row ≡ Some None → HaveDone w (libraries_to w row) before
-    → LinksRow w row made → Puts row made before after (Ok tt) → HaveDone w (libraries_to w (row + 1)) after
-library_put w before after row made is lt library told have links puts =
-    done_put w (libraries_to w row) (libraries_to w (row + 1)) before after row have
-    (put_is w before after row made have.sized lt told (library_walk w before row is lt have told) links puts) (library_now w row true library) (λ other apart. library_others w row other apart)
-
-pub library_puts : (w : walked.WalkedFiles) (before after : Linked) (row : ℕ) (made : Result Link Skip) (r : Result (Unit {0}) NoMemory) → IsWalked w → row < length w.files.now → is_library_row w row ≡ true → slice_get before.causes.items row ≡ Some None → HaveDone w (libraries_to w row) before
-    → LinksRow w row made → Puts row made before after r → OnOk r (HaveDone w (libraries_to w (row + 1)) after)
-library_puts w before after row made (Ok u) is lt library told have links puts = library_put w before after row made is lt library told have links puts
-library_puts w before after row made (Err e) is lt library told have links puts = tt
-
 -- ---- the others
 
-none_other : (w : walked.WalkedFiles) (row : ℕ) → others_to w 0 row ≡ is_library_row w row
-none_other w row = ap (λ (b : Bool). b || is_library_row w row) (lt_none row)
+-- all libraries come first
+pub libraries_first : (w : walked.WalkedFiles) (l : Linked) → HaveLinked true w (length w.files.now) l → HaveLinked false w 0 l
+libraries_first w l have =
+    have_same w (libraries_to w (length w.files.now)) (others_to w 0) l
+    (λ row lt. ap (λ (b : Bool). b || is_library_row w row) (lt_none row) ∙ sym (ap (λ (b : Bool). b && is_library_row w row) (lt_in row (length w.files.now) lt))) have
 
-pub others_begin : (w : walked.WalkedFiles) (l : Linked) → HaveDone w (is_library_row w) l → HaveDone w (others_to w 0) l
-others_begin w l have = have_same w (is_library_row w) (others_to w 0) l (λ row lt. none_other w row) have
-
-pub others_end : (w : walked.WalkedFiles) (count : ℕ) (l : Linked) → length w.files.now ≤ count → HaveDone w (others_to w count) l → AreLinked w l
-others_end w count l le have =
-    (have.sized, λ row lt. subst (λ (b : Bool). IsRow b w l row) (ap (λ (b : Bool). b || is_library_row w row) (lt_in row count (omega (arith, le, lt)))) (have.rows row lt))
+pub others_end : (w : walked.WalkedFiles) (l : Linked) → HaveLinked false w (length w.files.now) l → AreLinked w l
+others_end w l have =
+    (have.sized, λ row lt. subst (λ (b : Bool). IsRow b w l row) (ap (λ (b : Bool). b || is_library_row w row) (lt_in row (length w.files.now) lt)) (have.rows row lt))
 
 other_others : (w : walked.WalkedFiles) (row other : ℕ) → other ≢ row → others_to w (row + 1) other ≡ others_to w row other
 other_others w row other apart = ap (λ (b : Bool). b || is_library_row w other) (lt_next other row apart)
@@ -128,25 +103,6 @@ pub other_library : (w : walked.WalkedFiles) (l : Linked) (row : ℕ) → row < 
 other_library w l row lt is have =
     done_kept w (others_to w row) (others_to w (row + 1)) l row have
     (subst (λ (b : Bool). IsRow b w l row) (sym (other_now w row)) (subst (λ (b : Bool). IsRow b w l row) (other_before w row true is) (have.rows row lt))) (λ other apart. other_others w row other apart)
-
-pub other_refused : (w : walked.WalkedFiles) (l : Linked) (row : ℕ) (cause : Skip) → row < length w.files.now → is_library_row w row ≡ false → slice_get l.causes.items row ≡ Some (Some cause) → HaveDone w (others_to w row) l → HaveDone w (others_to w (row + 1)) l
-other_refused w l row cause lt is told have =
-    done_kept w (others_to w row) (others_to w (row + 1)) l row have
-    (subst (λ (b : Bool). IsRow b w l row) (sym (other_now w row)) (row_refused w l row cause (other_unlinked w l row lt is have) told)) (λ other apart. other_others w row other apart)
-
-pub other_walk : (w : walked.WalkedFiles) (l : Linked) (row : ℕ) → IsWalked w → row < length w.files.now → is_library_row w row ≡ false → HaveDone w (others_to w row) l → slice_get l.causes.items row ≡ Some None → HasWalk w row
-other_walk w l row is lt out have told = row_walk w l row is (other_unlinked w l row lt out have) lt told
-
-pub other_put : (w : walked.WalkedFiles) (before after : Linked) (row : ℕ) (made : Result Link Skip) → IsWalked w → row < length w.files.now → is_library_row w row ≡ false → slice_get before.causes.items row ≡ Some None → HaveDone w (others_to w row) before
-    → LinksRow w row made → Puts row made before after (Ok tt) → HaveDone w (others_to w (row + 1)) after
-other_put w before after row made is lt out told have links puts =
-    done_put w (others_to w row) (others_to w (row + 1)) before after row have
-    (put_is w before after row made have.sized lt told (other_walk w before row is lt out have told) links puts) (other_now w row) (λ other apart. other_others w row other apart)
-
-pub other_puts : (w : walked.WalkedFiles) (before after : Linked) (row : ℕ) (made : Result Link Skip) (r : Result (Unit {0}) NoMemory) → IsWalked w → row < length w.files.now → is_library_row w row ≡ false → slice_get before.causes.items row ≡ Some None → HaveDone w (others_to w row) before
-    → LinksRow w row made → Puts row made before after r → OnOk r (HaveDone w (others_to w (row + 1)) after)
-other_puts w before after row made (Ok u) is lt out told have links puts = other_put w before after row made is lt out told have links puts
-other_puts w before after row made (Err e) is lt out told have links puts = tt
 
 -- ---- kinds of rows
 
@@ -185,6 +141,36 @@ library_links w l count is have = λ row link h library fit there.
     or_true : (b : Bool) → (b || true) ≡ true
     or_true true = refl
     or_true false = refl
+
+-- ---- the libraries, or the others
+
+pub pass_skips : (libraries library : Bool) (w : walked.WalkedFiles) (l : Linked) (row : ℕ) → row < length w.files.now → is_library_row w row ≡ library → library ≢ libraries → HaveLinked libraries w row l → HaveLinked libraries w (row + 1) l
+pass_skips true true w l row lt is apart have = absurd (apart refl)
+pass_skips true false w l row lt is apart have = library_none w l row lt is have
+pass_skips false true w l row lt is apart have = other_library w l row lt is have
+pass_skips false false w l row lt is apart have = absurd (apart refl)
+
+pub pass_row : (libraries : Bool) (w : walked.WalkedFiles) (l : Linked) (row : ℕ) → IsWalked w → row < length w.files.now → is_library_row w row ≡ libraries → HaveLinked libraries w row l → IsNextRow w row l
+pass_row true w l row is lt library have = record {
+  walked = is;
+  within = lt;
+  sized = have.sized;
+  unlinked = library_unlinked w l row lt have;
+  libraries = λ none. absurd (false≢true (sym none ∙ library));
+}
+pass_row false w l row is lt other have = record {
+  walked = is;
+  within = lt;
+  sized = have.sized;
+  unlinked = other_unlinked w l row lt other have;
+  libraries = λ none. library_links w l row is have;
+}
+
+pub pass_put : (libraries : Bool) (w : walked.WalkedFiles) (before after : Linked) (row : ℕ) → is_library_row w row ≡ libraries → HaveLinked libraries w row before → IsPut w before after row → HaveLinked libraries w (row + 1) after
+pass_put true w before after row library have put =
+    done_put w (libraries_to w row) (libraries_to w (row + 1)) before after row have put (library_now w row true library) (λ other apart. library_others w row other apart)
+pass_put false w before after row none have put =
+    done_put w (others_to w row) (others_to w (row + 1)) before after row have put (other_now w row) (λ other apart. other_others w row other apart)
 
 -- ---- what is found of a row
 
@@ -232,6 +218,13 @@ program_found w row (Ok link) is h out also formed links = (
   subst (λ (k : Kind). IsLinkKind k w.files.now w.index.now h.rows link) (sym (program_first w row is h out also)) (links.0, links.1.0),
 )
 program_found w row (Err skip) is h out also formed links = same_answer (check_links (walked_by w.files.now h.rows)) (fits w h.taken h.rows) skip (sym (program_fit w row is h out also formed)) links
+
+-- whatever it is
+pub form_stops : (w : walked.WalkedFiles) (row : ℕ) (skip : Skip) → IsWalked w → (h : HasWalk w row) → is_static_entry h.taken.entry ≡ false → Answers skip_is_memory (Err skip) (all_formed (faults_of w.files.now) (names (walked_by w.files.now h.rows))) → LinksBy w h.rows (fits w h.taken h.rows) (Err skip)
+form_stops w row skip is h also answer = elim (cases_Bool (is_library_row w row)) [
+  | inl library ↦ library_stops w row skip is h library answer
+  | inr none ↦ program_stops w row skip is h none also answer
+]
 
 -- ---- rows as they are read
 

@@ -1,11 +1,11 @@
 -- The columns of links and causes, row by row.
 use Rattle.std.proofs.Common.{◌≡◌, ◌≢◌, ℕ, ◌<◌, Bool, true, false, List, [], ◌∷◌, length, Option, Some, None, Result, Ok, Err, refl, sym, ap, subst, ◌∙◌, arith, inl, inr}
-use Rattle.std.specs.Prelude.{◌⊎◌, ◌==◌, MatchBool, ⊤, slice_get}
+use Rattle.std.specs.Prelude.{◌⊎◌, ◌==◌, MatchBool, ⊤, slice_get, slice_set}
 use Rattle.std.proofs.lemmas.Bool.{cases_Bool, false≢true, eqb-true, eq-eqb}
 use Rattle.std.proofs.lemmas.Option.{none-some, same_Some, slice_get_cases}
 use Rattle.pl_elf.specs.declared.range.Range.{Range}
 use Rattle.pl_scope.specs.Walk.{Walked}
-use Rattle.pl_cone.specs.Linking.{HasWalk, HaveDone, IsRow, IsRowLinked, IsRowUnlinked, IsSized, IsWalked, LinksBy, LinksRow, Puts, fits}
+use Rattle.pl_cone.specs.Linking.{HasWalk, HaveDone, IsNextRow, IsPut, IsRow, IsRowLinked, IsRowUnlinked, IsWalked, LinksBy, LinksRow, fits}
 use Rattle.pl_cone.specs.Plans.{cause_of}
 use Rattle.pl_cone.specs.Skipped.{skip_of}
 use Rattle.pl_cone.specs.Skips.{skip_is_memory}
@@ -81,32 +81,40 @@ skipped_at w row h after skip cause none by = record {
   by = λ rows link told walk there. absurd (none-some skip (same_Some None (Some skip) (sym told ∙ cause)));
 }
 
--- what is put in, and what stays
-pub record IsPut (w : walked.WalkedFiles) (before after : Linked) (row : ℕ) : Type 0 where
-  pub sized : IsSized w after
-  pub linked : IsRowLinked w after row
-  pub links : (other : ℕ) → other ≢ row → slice_get after.links.items other ≡ slice_get before.links.items other
-  pub causes : (other : ℕ) → other ≢ row → slice_get after.causes.items other ≡ slice_get before.causes.items other
-
-pub put_is : (w : walked.WalkedFiles) (before after : Linked) (row : ℕ) (made : Result Link Skip) → IsSized w before → row < length w.files.now → slice_get before.causes.items row ≡ Some None → HasWalk w row → LinksRow w row made → Puts row made before after (Ok tt) → IsPut w before after row
-put_is w before after row (Ok link) sized lt told h links puts = record {
-  sized = record {
-    links = ap length puts.0 ∙ (length_set before.links.items row link ∙ sized.links);
-    causes = ap length puts.1 ∙ sized.causes;
-  };
-  linked = linked_at w row h after link (ap (λ (cs : List (Option Skip)). slice_get cs row) puts.1 ∙ told)
-      (ap (λ (ls : List Link). slice_get ls row) puts.0 ∙ get_set_same before.links.items row link (omega (arith, sized.links, lt))) (links h);
-  links = λ other apart. ap (λ (ls : List Link). slice_get ls other) puts.0 ∙ get_set_other before.links.items row other link apart;
-  causes = λ other apart. ap (λ (cs : List (Option Skip)). slice_get cs other) puts.1;
+-- a cause that is told already stays
+pub cause_put : (w : walked.WalkedFiles) (l : Linked) (row : ℕ) (cause : Skip) → IsNextRow w row l → slice_get l.causes.items row ≡ Some (Some cause) → IsPut w l l row
+cause_put w l row cause next told = record {
+  sized = next.sized;
+  linked = row_refused w l row cause next.unlinked told;
+  links = λ other apart. refl;
+  causes = λ other apart. refl;
 }
-put_is w before after row (Err skip) sized lt told h links puts = record {
+
+-- a link is put in
+pub link_put : (w : walked.WalkedFiles) (before after : Linked) (row : ℕ) (link : Link) → IsNextRow w row before → slice_get before.causes.items row ≡ Some None → HasWalk w row → LinksRow w row (Ok link)
+    → after.links.items ≡ slice_set before.links.items row link → after.causes.items ≡ before.causes.items → IsPut w before after row
+link_put w before after row link next told h made links causes = record {
   sized = record {
-    links = ap length puts.0 ∙ sized.links;
-    causes = ap length puts.1.0 ∙ (length_set before.causes.items row (Some skip) ∙ sized.causes);
+    links = ap length links ∙ (length_set before.links.items row link ∙ next.sized.links);
+    causes = ap length causes ∙ next.sized.causes;
   };
-  linked = skipped_at w row h after skip (ap (λ (cs : List (Option Skip)). slice_get cs row) puts.1.0 ∙ get_set_same before.causes.items row (Some skip) (omega (arith, sized.causes, lt))) puts.1.1 (links h);
-  links = λ other apart. ap (λ (ls : List Link). slice_get ls other) puts.0;
-  causes = λ other apart. ap (λ (cs : List (Option Skip)). slice_get cs other) puts.1.0 ∙ get_set_other before.causes.items row other (Some skip) apart;
+  linked = linked_at w row h after link (ap (λ (cs : List (Option Skip)). slice_get cs row) causes ∙ told)
+      (ap (λ (ls : List Link). slice_get ls row) links ∙ get_set_same before.links.items row link (omega (arith, next.sized.links, next.within))) (made h);
+  links = λ other apart. ap (λ (ls : List Link). slice_get ls other) links ∙ get_set_other before.links.items row other link apart;
+  causes = λ other apart. ap (λ (cs : List (Option Skip)). slice_get cs other) causes;
+}
+
+-- a cause is put in
+pub skip_put : (w : walked.WalkedFiles) (before after : Linked) (row : ℕ) (skip : Skip) → IsNextRow w row before → HasWalk w row → LinksRow w row (Err skip) → skip_is_memory skip ≡ false
+    → after.links.items ≡ before.links.items → after.causes.items ≡ slice_set before.causes.items row (Some skip) → IsPut w before after row
+skip_put w before after row skip next h made none links causes = record {
+  sized = record {
+    links = ap length links ∙ next.sized.links;
+    causes = ap length causes ∙ (length_set before.causes.items row (Some skip) ∙ next.sized.causes);
+  };
+  linked = skipped_at w row h after skip (ap (λ (cs : List (Option Skip)). slice_get cs row) causes ∙ get_set_same before.causes.items row (Some skip) (omega (arith, next.sized.causes, next.within))) none (made h);
+  links = λ other apart. ap (λ (ls : List Link). slice_get ls other) links;
+  causes = λ other apart. ap (λ (cs : List (Option Skip)). slice_get cs other) causes ∙ get_set_other before.causes.items row other (Some skip) apart;
 }
 
 -- ---- one row more

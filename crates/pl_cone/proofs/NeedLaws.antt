@@ -1,8 +1,7 @@
 -- Names by numbers: a map tells the number of each, and no name has two.
 use Rattle.std.proofs.Common.{◌≡◌, ◌≢◌, ℕ, zero, suc, ◌+◌, ◌<◌, ◌≤◌, ◌^◌, Bool, true, false, ◌||◌, cond, List, [], ◌∷◌, ◌++◌, length, map, take, get_or, Option, Some, None, refl, sym, ap, ◌∙◌, subst, arith, inl, inr}
 use Rattle.std.specs.Option.{option_map}
-use Rattle.std.specs.Prelude.{slice_get, ◌==◌, ◌⊎◌, IfOk, OnOk, Result, Ok, Err}
-use Rattle.pl_io.specs.declared.no_memory.NoMemory.{NoMemory}
+use Rattle.std.specs.Prelude.{slice_get, ◌==◌, ◌⊎◌}
 use Rattle.std.specs.Borrow.{Bor}
 use Rattle.std.specs.BTreeMap.{BTreeMap}
 use Rattle.std.specs.List.{All, AllByRecursion, IsDistinct}
@@ -202,13 +201,8 @@ names_more ts i t name old new lt item same front made =
     made ∙ ap (λ (ns : List (List ℕ)). ns ++ name ∷ []) front ∙ ap (λ (m : List ℕ). take i (names_of ts) ++ m ∷ []) same ∙ sym next
 
 -- a new name is found under its number
-pub number_at : (r : Result ℕ NoMemory) (old new : List (List ℕ)) (name : List ℕ) (count : ℕ) → count ≡ length old → IfOk r (λ n. n ≡ count) → OnOk r (new ≡ old ++ name ∷ []) → IfOk r (λ n. slice_get new n ≡ Some name)
-number_at (Ok n) old new name count long is made = ap (slice_get new) (is ∙ long) ∙ ap (λ (ns : List (List ℕ)). slice_get ns (length old)) made ∙ slice_get_last old name
-number_at (Err e) old new name count long is made = tt
-
-pub goes_on_by : (r : Result ℕ NoMemory) (old new : List (List ℕ)) (name : List ℕ) → OnOk r (new ≡ old ++ name ∷ []) → OnOk r (KeepNumbers old new)
-goes_on_by (Ok n) old new name made = goes_on_push old new name made
-goes_on_by (Err e) old new name made = tt
+pub number_last : (old new : List (List ℕ)) (name : List ℕ) (number : ℕ) → number ≡ length old → new ≡ old ++ name ∷ [] → slice_get new number ≡ Some name
+number_last old new name number long made = ap (slice_get new) long ∙ ap (λ (ns : List (List ℕ)). slice_get ns (length old)) made ∙ slice_get_last old name
 
 -- the numbers that the first files need, and those of one more
 pub tell_all_more : (ts : List Taken) (names more : List (List ℕ)) (i : ℕ) (t : Taken) (told : List ℕ) (old new : List (List ℕ)) → i < length ts → t ≡ get_or ts i t → KeepNumbers names more → Tell more (needed_by t) told → new ≡ old ++ told ∷ []

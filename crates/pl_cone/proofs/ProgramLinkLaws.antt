@@ -1,5 +1,5 @@
 -- What a program's relocations find, and the refusals of its walk, by the steps of its linking.
-use Rattle.std.proofs.Common.{◌≡◌, ◌<◌, Bool, true, false, length, Result, Ok, Err, refl, sym, ap, subst, ◌∙◌}
+use Rattle.std.proofs.Common.{◌≡◌, ◌<◌, Bool, true, false, length, Result, Ok, Err, refl, sym, ap, ◌∙◌}
 use Rattle.std.specs.Prelude.{MatchBool, ⊤}
 use Rattle.pl_base.specs.Answers.{because}
 use Rattle.pl_scope.specs.Walk.{Walked}
@@ -7,11 +7,9 @@ use Rattle.pl_tls.specs.Layout as tls
 use Rattle.pl_tls.specs.declared.fault.TlsFault.{TlsFault}
 use Rattle.pl_tls.specs.declared.fault.TlsFault.TheVariants.{TooLarge, NoMemory}
 use Rattle.pl_value.specs.declared.fault.LinkFault.{LinkFault}
-use Rattle.pl_value.specs.declared.fault.OrdinaryFault.{OrdinaryFault}
-use Rattle.pl_value.specs.declared.fault.OrdinaryFault.TheVariants as ordinary
 use Rattle.pl_scope.proofs.StepLaws.{err_ok}
 use Rattle.pl_cone.specs.Candidates.{blocks, check_links, of_link}
-use Rattle.pl_cone.specs.Links.{FindsFirst, FindsOwn, IsLinkingAtZero, LinksProgram, first_rows, of_ordinary, others_have, rows_have_in}
+use Rattle.pl_cone.specs.Links.{FindsOwn, IsLinkingAtZero, LinksProgram, first_rows, others_have, rows_have_in}
 use Rattle.pl_cone.specs.Skips.{skip_is_memory, of_tls}
 use Rattle.pl_cone.specs.declared.skip.Skip.{Skip}
 use Rattle.pl_cone.specs.declared.values.WalkLinking.{WalkLinking}
@@ -35,14 +33,9 @@ tls_refuses own NoMemory is = tt
 
 -- ---- the first member
 
-pub own_stops : (l : WalkLinking) (fault : OrdinaryFault) (skip : Skip) → FindsFirst l (Err fault) → skip ≡ of_ordinary l.scope.now fault → FindsOwn l (Err skip)
-own_stops l (ordinary.Link fault) skip is same =
-    let r : Result (Unit {0}) Skip = because (of_link l.scope.now) (rows_have_in l (first_rows l)) in
-    let told : r ≡ Err (of_link l.scope.now fault) = ap (because (of_link l.scope.now)) is in
-    meant_anyway (skip_is_memory skip) skip r (told ∙ ap (λ (s : Skip). Err s) (sym same))
-own_stops l ordinary.NoMemory skip is same =
-    let r : Result (Unit {0}) Skip = because (of_link l.scope.now) (rows_have_in l (first_rows l)) in
-    subst (λ (s : Skip). MatchBool (skip_is_memory s) ⊤ (r ≡ Err s)) (sym same) tt
+pub own_stops : (l : WalkLinking) (fault : LinkFault) (skip : Skip) → rows_have_in l (first_rows l) ≡ Err fault → skip ≡ of_link l.scope.now fault → FindsOwn l (Err skip)
+own_stops l fault skip is same =
+    meant_anyway (skip_is_memory skip) skip (because (of_link l.scope.now) (rows_have_in l (first_rows l))) (ap (because (of_link l.scope.now)) is ∙ ap (λ (s : Skip). Err s) (sym same))
 
 -- ---- the whole walk
 
@@ -60,6 +53,10 @@ module _ (l : WalkLinking) (is : IsLinkingAtZero l) (some : 0 < length l.scope.n
   pub others_are : rows_have_in l (first_rows l) ≡ Ok tt → check_links l.scope.now ≡ because (of_link l.scope.now) (others_have l)
   others_are first = others_decide l.scope.now l refl is.places is.tls some (others_have l) first refl
 
-  pub others_refuse : (skip : Skip) → rows_have_in l (first_rows l) ≡ Ok tt → MatchBool (skip_is_memory skip) ⊤ (because (of_link l.scope.now) (others_have l) ≡ Err skip) → LinksProgram l.scope.now (Err skip)
+  others_refuse : (skip : Skip) → rows_have_in l (first_rows l) ≡ Ok tt → MatchBool (skip_is_memory skip) ⊤ (because (of_link l.scope.now) (others_have l) ≡ Err skip) → LinksProgram l.scope.now (Err skip)
   others_refuse skip first stops =
       same_unless (skip_is_memory skip) skip (because (of_link l.scope.now) (others_have l)) (check_links l.scope.now) (λ stop. others_are first ∙ stop) stops
+
+  pub others_stop : (fault : LinkFault) (skip : Skip) → rows_have_in l (first_rows l) ≡ Ok tt → others_have l ≡ Err fault → skip ≡ of_link l.scope.now fault → LinksProgram l.scope.now (Err skip)
+  others_stop fault skip first stop same =
+      others_refuse skip first (meant_anyway (skip_is_memory skip) skip (because (of_link l.scope.now) (others_have l)) (ap (because (of_link l.scope.now)) stop ∙ ap (λ (s : Skip). Err s) (sym same)))

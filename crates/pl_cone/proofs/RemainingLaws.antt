@@ -1,8 +1,7 @@
 -- Numbers that rise, and a fact of each number between them.
-use Rattle.std.proofs.Common.{◌≡◌, ℕ, zero, suc, ◌+◌, ◌<◌, ◌≤◌, List, [], ◌∷◌, ◌++◌, length, drop, get_or, map, Option, Some, None, Result, Ok, Err, refl, sym, ap, ◌∙◌, subst, arith}
+use Rattle.std.proofs.Common.{◌≡◌, ℕ, zero, suc, ◌+◌, ◌<◌, ◌≤◌, List, [], ◌∷◌, length, drop, get_or, map, Option, Some, None, Result, Ok, Err, refl, sym, ap, ◌∙◌, arith}
 use Rattle.std.specs.Prelude.{◌-◌, slice_get, slice_index_or}
-use Rattle.std.specs.List.{cons_option}
-use Rattle.std.proofs.lemmas.List.{append-nil, get_or_default}
+use Rattle.std.proofs.lemmas.List.{get_or_default}
 use Rattle.std.proofs.lemmas.Option.{slice_get-get_or, get_or_from_slice_get}
 use Rattle.pl_base.specs.Answers.{◌>>=◌}
 use Rattle.pl_base.specs.Each.{run}
@@ -11,18 +10,8 @@ use Rattle.pl_value.specs.Meanings.{Row, row}
 use Rattle.pl_value.specs.declared.fault.LinkFault.{LinkFault}
 use Rattle.pl_value.specs.declared.meaning.Meaning.{Meaning}
 use Rattle.pl_conflict.specs.Between.{HoldsBetween}
-use Rattle.pl_conflict.proofs.BetweenLaws.{between_grown, between_pushed}
-use Rattle.pl_cone.specs.Links.{IsRemainingNumber, done}
+use Rattle.pl_cone.specs.Links.{done}
 use Rattle.pl_cone.proofs.ValueLaws.{each_has, row_past, row_linked, row_stops, all_rows}
-
--- ---- one number more
-
--- a number more, where it is one of them or the fact holds of it
-pub holds_next : (P : ℕ → Type 0) (count : ℕ) (ns after : List ℕ) (number : Option ℕ) → after ≡ ns ++ cons_option number [] → HoldsBetween P count 0 ns → IsRemainingNumber (P count) count number → HoldsBetween P (count + 1) 0 after
-holds_next P count ns after None more all is =
-    subst (λ (ks : List ℕ). HoldsBetween P (count + 1) 0 ks) (sym (more ∙ append-nil ns)) (between_grown P count 0 ns is all)
-holds_next P count ns after (Some n) more all is =
-    subst (λ (ks : List ℕ). HoldsBetween P (count + 1) 0 ks) (sym (more ∙ ap (λ (k : ℕ). ns ++ k ∷ []) is)) (between_pushed P count 0 ns (omega arith) all)
 
 -- ---- the values of a member's relocations by those of some
 

@@ -1,9 +1,9 @@
 -- The files that may stay as they are, and the stamps of a run, by rows.
-use Rattle.std.specs.Prelude.{ℕ, Bool, true, false, not, ◌&&◌, ◌||◌, ◌==◌, List, [], ◌∷◌, map, length, fold, max, slice_get, slice_index, Option, Some, None, Result, Ok, if◌then◌else◌}
+use Rattle.std.specs.Prelude.{◌≡◌, ℕ, Bool, true, false, not, ◌&&◌, ◌||◌, ◌==◌, List, [], ◌∷◌, map, length, fold, max, slice_get, slice_index, Option, Some, None, Result, Ok, if◌then◌else◌}
 use Rattle.std.specs.List.{list_all, list_any, range_with_len}
 use Rattle.std.specs.Str.{bytes_eq}
 use Rattle.pl_cone.specs.Plans.{stamp_after}
-use Rattle.pl_cone.specs.Table.{is_candidate_row, rows_of, walk_of}
+use Rattle.pl_cone.specs.Table.{IsRunTableOfSome, is_candidate_row, rows_of, walk_of}
 use Rattle.pl_cone.specs.Taken.{is_library_entry, marked_by}
 use Rattle.pl_cone.specs.declared.skip.ConeFault.{ConeFault}
 use Rattle.pl_cone.specs.declared.table.RunTable.{RunTable}
@@ -58,6 +58,11 @@ is_held ts [] place = false
 is_held ts (first ∷ others) place = holds_at ts (slice_get ts first) others place
 
 -- ---- columns
+
+-- there is a place for each row of a table
+pub record HavePlaces (t : RunTable) (places : List ℕ) : Type 0 where
+  pub table : IsRunTableOfSome t
+  pub places : length places ≡ length t.files.now
 
 abbrev pub held_at : RunTable → List ℕ → ℕ → Bool
 held_at t places row = is_held t.files.now (walk_of t row) (slice_index places row)

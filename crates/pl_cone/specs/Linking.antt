@@ -1,5 +1,5 @@
 -- What the relocations of the files of a folder find, and why some may not be prelinked, row by row.
-use Rattle.std.specs.Prelude.{◌≡◌, ◌<◌, ℕ, Bool, true, false, ◌||◌, ◌&&◌, nat_lt, List, [], ◌∷◌, length, slice_get, slice_set, Option, Some, None, Result, Ok, Err}
+use Rattle.std.specs.Prelude.{◌≡◌, ◌≢◌, ◌<◌, ℕ, Bool, true, false, ◌||◌, ◌&&◌, nat_lt, List, length, slice_get, Option, Some, None, Result, Ok, Err}
 use Rattle.pl_base.specs.Answers.{Answers, unless_found}
 use Rattle.pl_cone.specs.Candidates as candidates
 use Rattle.pl_cone.specs.Links.{IsLinkOf}
@@ -18,7 +18,6 @@ use Rattle.pl_elf.specs.Kinds.{is_static}
 use Rattle.pl_elf.specs.declared.range.Range.{Range}
 use Rattle.pl_form.specs.declared.file.Entry.{Entry}
 use Rattle.pl_form.specs.declared.file.Entry.TheVariants.{There, BadMark, Refused}
-use Rattle.pl_io.specs.declared.no_memory.NoMemory.{NoMemory}
 use Rattle.pl_scope.specs.Folder.{IsFolderIndex}
 
 -- files with the walks of their names, and the index of what they define
@@ -69,6 +68,13 @@ LinksRow w row result = (h : HasWalk w row) → LinksBy w h.rows (fits w h.taken
 abbrev pub AreLibraryLinks : walked.WalkedFiles → List Link → Type 0
 AreLibraryLinks w links = (row : ℕ) (l : Link) (h : HasWalk w row) → is_library_row w row ≡ true → fits w h.taken h.rows ≡ Ok tt → slice_get links row ≡ Some l → IsLinkOf w.index.now (walked_by w.files.now h.rows) l
 
+-- a row has a walk, there is a link for each row, and those of the libraries tell what varies, if it is another's
+pub record MayLinkRow (w : walked.WalkedFiles) (row : ℕ) (links : List Link) : Type 0 where
+  pub walked : IsWalked w
+  pub row : HasWalk w row
+  pub sized : length links ≡ length w.files.now
+  pub libraries : is_library_row w row ≡ false → AreLibraryLinks w links
+
 -- ---- all rows
 
 pub record IsSized (w : walked.WalkedFiles) (l : Linked) : Type 0 where
@@ -93,9 +99,6 @@ pub record HaveDone (w : walked.WalkedFiles) (done : ℕ → Bool) (l : Linked) 
   pub sized : IsSized w l
   pub rows : (row : ℕ) → row < length w.files.now → IsRow (done row) w l row
 
-abbrev pub none_done : ℕ → Bool
-none_done row = false
-
 -- the libraries before a row
 abbrev pub libraries_to : walked.WalkedFiles → ℕ → ℕ → Bool
 libraries_to w count row = nat_lt row count && is_library_row w row
@@ -104,11 +107,28 @@ libraries_to w count row = nat_lt row count && is_library_row w row
 abbrev pub others_to : walked.WalkedFiles → ℕ → ℕ → Bool
 others_to w count row = nat_lt row count || is_library_row w row
 
+-- so many rows were looked at, of the libraries alone, or of the others after them
+abbrev pub done_to : Bool → walked.WalkedFiles → ℕ → (ℕ → Bool)
+done_to true w count = libraries_to w count
+done_to false w count = others_to w count
+
+abbrev pub HaveLinked : Bool → walked.WalkedFiles → ℕ → Linked → Type 0
+HaveLinked libraries w count l = HaveDone w (done_to libraries w count) l
+
+-- a row comes next: those of the libraries are linked, if it is another's
+pub record IsNextRow (w : walked.WalkedFiles) (row : ℕ) (l : Linked) : Type 0 where
+  pub walked : IsWalked w
+  pub within : row < length w.files.now
+  pub sized : IsSized w l
+  pub unlinked : IsRowUnlinked w l row
+  pub libraries : is_library_row w row ≡ false → AreLibraryLinks w l.links.items
+
 abbrev pub AreLinked : walked.WalkedFiles → Linked → Type 0
 AreLinked w l = IsSized w l × ((row : ℕ) → row < length w.files.now → IsRowLinked w l row)
 
--- a link or a cause is put in; want of memory ends all
-abbrev pub Puts : ℕ → Result Link Skip → Linked → Linked → Result (Unit {0}) NoMemory → Type 0
-Puts row (Ok link) before after (Ok u) = (after.links.items ≡ slice_set before.links.items row link) × (after.causes.items ≡ before.causes.items)
-Puts row (Err skip) before after (Ok u) = (after.links.items ≡ before.links.items) × ((after.causes.items ≡ slice_set before.causes.items row (Some skip)) × (skip_is_memory skip ≡ false))
-Puts row made before after (Err fault) = Unit {0}
+-- the cause of a row and its link are put in, and every other row stays
+pub record IsPut (w : walked.WalkedFiles) (before after : Linked) (row : ℕ) : Type 0 where
+  pub sized : IsSized w after
+  pub linked : IsRowLinked w after row
+  pub links : (other : ℕ) → other ≢ row → slice_get after.links.items other ≡ slice_get before.links.items other
+  pub causes : (other : ℕ) → other ≢ row → slice_get after.causes.items other ≡ slice_get before.causes.items other

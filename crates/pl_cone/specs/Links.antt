@@ -10,7 +10,6 @@ use Rattle.pl_conflict.specs.Between.{HoldsBetween}
 use Rattle.pl_conflict.specs.Own.{FindAll}
 use Rattle.pl_cone.specs.declared.linking.Link.{Link}
 use Rattle.pl_cone.specs.declared.skip.Skip.{Skip}
-use Rattle.pl_cone.specs.declared.skip.Skip.TheVariants as skips
 use Rattle.pl_cone.specs.declared.values.WalkLinking.{WalkLinking}
 use Rattle.pl_object.specs.declared.object.Object.{Object}
 use Rattle.pl_object.specs.declared.reloc.Reloc.{Reloc}
@@ -23,8 +22,6 @@ use Rattle.pl_tls.specs.Layout.{offsets}
 use Rattle.pl_value.specs.Meanings.{Row, meaning, row, rows_from}
 use Rattle.pl_value.specs.Values.{relocations_in}
 use Rattle.pl_value.specs.declared.fault.LinkFault.{LinkFault}
-use Rattle.pl_value.specs.declared.fault.OrdinaryFault.{OrdinaryFault}
-use Rattle.pl_value.specs.declared.fault.OrdinaryFault.TheVariants as ordinary
 use Rattle.pl_value.specs.declared.meaning.Meaning.{Meaning}
 
 -- ---- what is kept of a file
@@ -35,11 +32,6 @@ GivesOneWordOf definers own relocs i = (d : Reloc) → GivesOneWordBy definers o
 -- the indexes of the remaining ones, in their order; each other is of one word
 abbrev pub AreRemaining : List Entry → List Object → List Reloc → List ℕ → Type 0
 AreRemaining definers own relocs remaining = HoldsBetween (GivesOneWordOf definers own relocs) (length relocs) 0 remaining
-
--- the number of a relocation, or none where a fact holds of it
-abbrev pub IsRemainingNumber : Type 0 → ℕ → Option ℕ → Type 0
-IsRemainingNumber GivesOne number None = GivesOne
-IsRemainingNumber GivesOne number (Some n) = n ≡ number
 
 -- what the own relocations of a library find by its walk, and which remain
 pub record IsLinkOf (definers : List Entry) (own : Walked) (l : Link) : Type 0 where
@@ -107,24 +99,13 @@ pub record HaveLinks (own : Walked) (walk : List ℕ) (links : List Link) : Type
 abbrev pub TellOfOthers : WalkLinking → List ℕ → List Link → Type 0
 TellOfOthers l walk links = (m r : ℕ) (o : Object) (link : Link) → 0 < m → slice_get (objects_of l) m ≡ Some o → slice_get walk m ≡ Some r → slice_get links r ≡ Some link → TellsOf l m o.relocations link.remaining
 
--- what each relocation of the first member finds, where all have values, or the first refusal
-abbrev pub FindsFirst : WalkLinking → Result (List (Option Found)) OrdinaryFault → Type 0
-FindsFirst l (Ok found) = FindAll (objects_of l) found × (rows_have_in l (first_rows l) ≡ Ok tt)
-FindsFirst l (Err ordinary.NoMemory) = Unit {0}
-FindsFirst l (Err (ordinary.Link fault)) = rows_have_in l (first_rows l) ≡ Err fault
-
 -- a walk is linked with each member at 0
 pub record IsLinkingAtZero (l : WalkLinking) : Type 0 where
   pub is : IsLinking l
   pub places : l.places.now ≡ zeros l.scope.now
   pub tls : offsets (blocks l.scope.now) ≡ Ok l.modules.now
 
--- a refusal by names
-abbrev pub of_ordinary : Walked → OrdinaryFault → Skip
-of_ordinary walked (ordinary.Link fault) = of_link walked fault
-of_ordinary walked ordinary.NoMemory = skips.NoMemory
-
--- the same by names
+-- what each relocation of the first member finds, where all have values, or the first refusal by names
 abbrev pub FindsOwn : WalkLinking → Result (List (Option Found)) Skip → Type 0
 FindsOwn l (Ok found) = FindAll (objects_of l) found × (rows_have_in l (first_rows l) ≡ Ok tt)
 FindsOwn l (Err skip) = Answers skip_is_memory (Err skip) (because (of_link l.scope.now) (rows_have_in l (first_rows l)))
@@ -134,6 +115,12 @@ FindsOwn l (Err skip) = Answers skip_is_memory (Err skip) (because (of_link l.sc
 -- the relocations of each member after the first that do not vary have values, wherever thread-local storage is
 abbrev pub TellLinks : Walked → List ℕ → List Link → Type 0
 TellLinks own walk links = (linking : WalkLinking) → linking.scope.now ≡ own → linking.places.now ≡ zeros own → TellOfOthers linking walk links
+
+-- a walk has a first member, each has a link, and those of the others tell what varies
+pub record MayLink (own : Walked) (walk : List ℕ) (links : List Link) : Type 0 where
+  pub some : 0 < length own
+  pub walk : HaveLinks own walk links
+  pub tell : TellLinks own walk links
 
 -- what its relocations find where its walk links; or the refusal
 abbrev pub LinksProgram : Walked → Result Link Skip → Type 0

@@ -10,6 +10,7 @@ use Rattle.pl_base.specs.Answers.{◌>>=◌, because}
 use Rattle.pl_cone.specs.Skips.{skip_is_memory, of_walk}
 use Rattle.pl_cone.specs.Taken.{WereTaken, object_by, object_of}
 use Rattle.pl_cone.specs.declared.needs.Needs.{Needs}
+use Rattle.pl_cone.specs.declared.needs.Numbering.{Numbering}
 use Rattle.pl_cone.specs.declared.skip.Skip.{Skip}
 use Rattle.pl_cone.specs.declared.skip.Skip.TheVariants as skips
 use Rattle.pl_cone.specs.declared.taken.Taken.{Taken}
@@ -41,13 +42,29 @@ pub record AreNumbers (numbers : BTreeMap (Bor (List ℕ)) ℕ) (names : List (L
 abbrev pub Numbers : BTreeMap (Bor (List ℕ)) ℕ → List (Bor (List ℕ)) → Type 0
 Numbers numbers names = AreNumbers numbers (words names)
 
+-- names with their numbers, fewer than 2^32
+pub record IsNumbering (n : Numbering) : Type 0 where
+  pub numbers : Numbers n.numbers n.names.items
+  pub few : length n.names.items < 2 ^ 32
+
+abbrev pub words_in : Numbering → List (List ℕ)
+words_in n = words n.names.items
+
+abbrev pub HasNumber : Numbering → List ℕ → ℕ → Type 0
+HasNumber n name number = slice_get (words_in n) number ≡ Some name
+
 -- names keep their numbers
 abbrev pub KeepNumbers : List (List ℕ) → List (List ℕ) → Type 0
 KeepNumbers before after = (n : ℕ) (name : List ℕ) → slice_get before n ≡ Some name → slice_get after n ≡ Some name
 
--- so names that are borrowed grow
-abbrev pub Grow : List (Bor (List ℕ)) → List (Bor (List ℕ)) → Type 0
-Grow before after = KeepNumbers (words before) (words after)
+-- more names may have numbers
+pub record GoesOn (before after : Numbering) : Type 0 where
+  pub is : IsNumbering after
+  pub keep : KeepNumbers (words_in before) (words_in after)
+
+-- a name that has none is added behind the others
+abbrev pub AddsName : List ℕ → Numbering → Numbering → Type 0
+AddsName name before after = told before.numbers name ≡ None → words_in after ≡ words_in before ++ name ∷ []
 
 abbrev pub told_name : Option (List ℕ) → List ℕ
 told_name None = []
@@ -150,6 +167,11 @@ pub record IsNumberWalk (n : Needs) (w : walking.NumberWalk) : Type 0 where
   pub named : AreNameNumbers n w.numbers.items
   pub few : length w.numbers.items ≤ 256
   pub seen : (k : ℕ) → k < length (all_names n) → IsSeen w k
+
+-- names by numbers, and a walk by them
+pub record IsUnderWay (n : Needs) (w : walking.NumberWalk) : Type 0 where
+  pub needs : AreNeeds n
+  pub walking : IsNumberWalk n w
 
 -- a name was last seen in one of the first walks
 pub record IsPast (w : walking.NumberWalk) (walks k : ℕ) : Type 0 where

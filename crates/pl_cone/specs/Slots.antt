@@ -1,10 +1,10 @@
 -- What the libraries of a table want, and where they go.
-use Rattle.std.specs.Prelude.{◌≡◌, ◌<◌, ℕ, Bool, true, false, List, [], ◌∷◌, ◌++◌, map, filter, length, slice_get, Option, Some, None, Result, Ok, Err, if◌then◌else◌}
-use Rattle.std.specs.List.{All, filter_map, cons_option, range_with_len}
+use Rattle.std.specs.Prelude.{◌≡◌, ℕ, Bool, true, false, List, [], ◌∷◌, ◌++◌, map, filter, length, slice_get, Option, Some, None, Result, Ok, Err, if◌then◌else◌}
+use Rattle.std.specs.List.{filter_map, cons_option, range_with_len}
 use Rattle.pl_base.specs.Answers.{Answers, because}
 use Rattle.pl_cone.specs.Faulted.{is_memory, of_plan}
 use Rattle.pl_cone.specs.Plans.{start_of, want_of}
-use Rattle.pl_cone.specs.Table.{is_candidate_row, rows_of, walk_of}
+use Rattle.pl_cone.specs.Table.{IsRunTableOfSome, is_candidate_row, rows_of, walk_of}
 use Rattle.pl_cone.specs.Taken.{object_by}
 use Rattle.pl_cone.specs.declared.planning.Asked.{Asked}
 use Rattle.pl_cone.specs.declared.fault.PlanningFault.{PlanningFault}
@@ -65,6 +65,11 @@ pub record IsWanting (t : RunTable) (w : Wanting) : Type 0 where
   pub wants : w.wants ≡ table_wants t
   pub positions : w.positions.items ≡ positions t
 
+-- a table, and what its rows want
+pub record IsWantedBy (t : RunTable) (w : Wanting) : Type 0 where
+  pub table : IsRunTableOfSome t
+  pub wanting : IsWanting t w
+
 -- ---- walks
 
 abbrev pub joined : Option (Option ℕ) → Option ℕ
@@ -90,10 +95,6 @@ start_at slots (Some position) = start_of (slice_get slots position)
 -- the slots have the names of the wants, in their order
 abbrev pub HaveWantedNames : List Want → List Slot → Type 0
 HaveWantedNames ws slots = map (λ s. s.name) slots ≡ map (λ w. w.name) ws
-
--- the same, of wants of some addresses
-abbrev pub HaveNamesIf : List Want → List Slot → Type 0
-HaveNamesIf ws slots = All (λ w. 0 < w.span) ws → HaveWantedNames ws slots
 
 -- the slots, and where each row's starts; or the fault
 abbrev pub PlacesSlots : RunTable → Asked → Result PlannedSlots PlanningFault → Type 0

@@ -1,5 +1,5 @@
 -- The table of a run: a row for each file, and what its columns tell.
-use Rattle.std.specs.Prelude.{◌≡◌, ◌<◌, ◌≤◌, ℕ, Bool, false, not, List, [], ◌∷◌, ◌++◌, ◌+◌, map, if◌then◌else◌, length, replicate, slice_get, slice_set, Option, Some, None, is_some, Result, Ok, Err, find}
+use Rattle.std.specs.Prelude.{◌≡◌, ◌<◌, ◌≤◌, ℕ, Bool, false, not, List, [], ◌∷◌, ◌+◌, map, if◌then◌else◌, length, replicate, slice_get, slice_set, Option, Some, None, is_some, Result, Ok, Err, find}
 use Rattle.std.specs.List.{All, filter_map, range_with_len}
 use Rattle.std.specs.Option.{option_and_then, option_map}
 use Rattle.std.specs.Str.{bytes_eq}
@@ -10,7 +10,7 @@ use Rattle.pl_elf.specs.declared.range.Range.{Range}
 use Rattle.pl_object.specs.declared.object.Object.{Object}
 use Rattle.pl_scope.specs.Folder.{IsFolderIndex, IsIndexAmong}
 use Rattle.pl_scope.specs.Members.{names}
-use Rattle.pl_scope.specs.Scope.{objects, IsAccepted}
+use Rattle.pl_scope.specs.Scope.{objects}
 use Rattle.pl_scope.specs.Walk.{Walked}
 use Rattle.pl_scope.specs.declared.folder.Among.{Among}
 use Rattle.pl_scope.specs.declared.index.Entry.{Entry}
@@ -44,9 +44,6 @@ member_of (Some t) = option_map (λ o. (t.name, o)) (object_by t.entry)
 -- the members that rows tell, by their names
 abbrev pub walked_by : List Taken → List ℕ → Walked
 walked_by ts rows = filter_map (λ r. member_of (slice_get ts r)) rows
-
-abbrev pub with_member : Walked → List Taken → ℕ → Walked
-with_member members ts row = members ++ walked_by ts (row ∷ [])
 
 -- rows are those of files that have objects, no more than a walk has
 pub record AreRows (ts : List Taken) (rows : List ℕ) : Type 0 where
@@ -102,10 +99,6 @@ refusals_in ts = map (λ x. refusal_of (walk_for ts x.name)) ts
 -- the objects of the originals, in the order of the rows
 abbrev pub folder_objects : List Taken → List (Option Object)
 folder_objects ts = map (λ t. object_by t.entry) ts
-
--- the object of a row is one that acceptance gives
-abbrev pub IsAcceptedRow : List Taken → ℕ → Type 0
-IsAcceptedRow ts row = (t : Taken) (o : Object) → slice_get ts row ≡ Some t → object_by t.entry ≡ Some o → IsAccepted o
 
 -- where rows stand among some of them
 unfoldable pub positions_from : ℕ → List (Option ℕ) → List ℕ → List (Option ℕ)

@@ -1,6 +1,5 @@
 // What may be prelinked of a folder, and what a run rewrites.
 ghost use Rattle.std.specs.Prelude.{◌≡◌, IfOk, length};
-ghost use Rattle.std.specs.Str.{bytes_eq};
 ghost use Rattle.pl_base.specs.Answers.{Answers};
 ghost use Rattle.pl_elf.specs.declared.range.Range.{Range};
 ghost use Rattle.pl_cone.specs.Calls as spec;
@@ -12,23 +11,17 @@ ghost use Rattle.pl_cone.specs.Taken.{AreTaken, WereTaken, files_in};
 use crate::currency::{run_stamp, stale_rows};
 use crate::{ConeFault, RunTable, Skip, Taken};
 use pl_base::{Rows, Text};
+use pl_io::NoMemory;
 use pl_slots::Slot;
-use std::alloc::{AllocError, Global};
+use std::alloc::Global;
 
 /// What a run rewrites.
 #[derive(Drop)]
 pub struct Cone {
     /// The names that may be prelinked and are not current, in the order of the files.
     pub stale: Rows<Text>,
-
     /// The stamp that they get; the last one so far where there are none.
     pub stamp: u32,
-}
-
-fn is_named(taken: &Taken, name: &str) -> bool
-    ensures { result ≡ spec.is_named name.now taken.now }
-{
-    taken.name.as_str() == name
 }
 
 /// The row of the file of a name, if there is one.
@@ -36,24 +29,11 @@ pub fn row_of(files: &[Taken], name: &str) -> Option<usize>
     ensures { spec.IsRowOf files.now name.now result }
 {
     for row in 0..files.len() {
-        if is_named(&files[row], name) {
+        if files[row].name.as_str() == name {
             return Some(row);
         }
     }
     None
-}
-
-/// The cause of a row, taken out of the table.
-fn cause_at(table: RunTable<'_>, row: usize) -> Result<(), Skip>
-    requires { spec.IsRowNumber table row }
-    ensures { result ≡ spec.caused_at table.entry row }
-{
-    let RunTable { causes, .. } = table;
-    let mut causes = causes.into_vec();
-    match causes.remove(row) {
-        None => Ok(()),
-        Some(skip) => Err(skip),
-    }
 }
 
 /// Whether a name of a folder may be prelinked: it is a program or library whose walk has no refusal, each member of its walk has a form, and, where it is a program, thread-local storage has offsets and each relocation has a value. Else the first cause, in this order, those of one kind in the order of the walk. That a program's form may be too large is not looked at.
@@ -68,29 +48,26 @@ pub fn prelinkable(alloc: Global, files: &[Taken], name: &str) -> Result<(), Ski
         return Err(Skip::NotThere(Text::copy_of(alloc, name)?));
     };
     let table = RunTable::of(alloc, files)?;
-    cause_at(table, row)
+    let RunTable { causes, .. } = table;
+    let mut causes = causes.into_vec();
+    match causes.remove(row) {
+        None => Ok(()),
+        Some(skip) => Err(skip),
+    }
 }
 
-fn is_slot_of(slot: &Slot, taken: &Taken) -> bool
-    ensures { result ≡ bytes_eq slot.now.name taken.now.name }
-{
-    slot.name.as_str() == taken.name.as_str()
-}
-
-/// Where the slot of a name starts, 0 where it has none.
 fn place_of(slots: &[Slot], taken: &Taken) -> u64
     ensures { result ≡ spec.place_of slots.now taken.now }
 {
     for slot in slots {
-        if is_slot_of(slot, taken) {
+        if slot.name.as_str() == taken.name.as_str() {
             return slot.start;
         }
     }
     0
 }
 
-/// Where the slots of the names of files start, in their order; 0 where one has none.
-fn places_of(alloc: Global, slots: &[Slot], files: &[Taken]) -> Result<Rows<u64>, AllocError>
+fn places_of(alloc: Global, slots: &[Slot], files: &[Taken]) -> Result<Rows<u64>, NoMemory>
     ensures { IfOk result (λ v. v ≡ spec.places_of slots.now files.now) }
 {
     let mut places = Rows::new(alloc);
@@ -100,8 +77,7 @@ fn places_of(alloc: Global, slots: &[Slot], files: &[Taken]) -> Result<Rows<u64>
     Ok(places)
 }
 
-/// The names of the rows that are flagged.
-fn names_where(alloc: Global, files: &[Taken], stale: &[bool]) -> Result<Rows<Text>, AllocError>
+fn names_where(alloc: Global, files: &[Taken], stale: &[bool]) -> Result<Rows<Text>, NoMemory>
     requires { length stale.now ≡ length files.now }
     ensures { IfOk result (λ v. v ≡ columns.names_where files.now stale.now) }
 {

@@ -1,33 +1,28 @@
 // The names whose files may stay as they are, and the stamps of a run.
-ghost use Rattle.std.specs.Prelude.{◌≡◌, ◌<◌, IfOk, drop, length};
+ghost use Rattle.std.specs.Prelude.{◌≡◌, IfOk, length};
 ghost use Rattle.pl_cone.specs.Currency as spec;
 ghost use Rattle.pl_cone.specs.Table as columns;
-ghost use Rattle.std.specs.List.{list_any};
 ghost use Rattle.pl_base.specs.Answers.{Answers};
-ghost use Rattle.pl_cone.specs.Plans as plans;
 ghost use Rattle.pl_cone.specs.Skips.{stops_memory};
 
 use crate::{ConeFault, RunTable, Taken};
 use pl_base::Rows;
 use pl_form::{Marked, Version};
+use pl_io::NoMemory;
 use pl_lists::ListRow;
-use std::alloc::{AllocError, Global};
+use std::alloc::Global;
 
-/// Whether a row of a list tells a file: it has its name, its stamp and its original's checksum, and the file is prelinked.
 fn is_row(taken: &Taken, row: &ListRow) -> bool
     ensures { result ≡ spec.is_row taken.now row.now }
 {
-    match taken.marked() {
-        None => false,
-        Some(marked) => {
-            row.stamp == marked.stamp
-                && row.checksum == marked.checksum
-                && row.name.as_str() == taken.name.as_str()
-        }
-    }
+    let Some(marked) = taken.marked() else {
+        return false;
+    };
+    row.stamp == marked.stamp
+        && row.checksum == marked.checksum
+        && row.name.as_str() == taken.name.as_str()
 }
 
-/// Whether a list tells the files of rows, in their order.
 fn lists_members(files: &[Taken], list: &[ListRow], others: &[u32]) -> bool
     requires { columns.AreRows files.now others.now }
     ensures { result ≡ spec.lists_members files.now list.now others.now }
@@ -43,16 +38,6 @@ fn lists_members(files: &[Taken], list: &[ListRow], others: &[u32]) -> bool
     true
 }
 
-/// Whether a mark is as marks are made now.
-fn is_present(marked: &Marked) -> bool
-    ensures { result ≡ spec.is_present marked.now }
-{
-    match marked.version {
-        Version::One => false,
-        Version::Two => true,
-    }
-}
-
 /// Whether a file has a mark as they are made now, stands at its planned slot if it is a library, and has a list that tells the other members of its walk.
 fn holds(files: &[Taken], taken: &Taken, others: &[u32], place: u64) -> bool
     requires { columns.AreRows files.now others.now }
@@ -61,36 +46,23 @@ fn holds(files: &[Taken], taken: &Taken, others: &[u32], place: u64) -> bool
     let Some(marked) = taken.marked() else {
         return false;
     };
-    is_present(marked)
+    matches!(marked.version, Version::Two)
         && (!taken.is_library() || marked.slot == place)
         && lists_members(files, marked.list.as_slice(), others)
 }
 
-/// The rows of a walk after the first.
-fn others(walk: &[u32]) -> &[u32]
-    ensures { result.now ≡ drop 1 walk.now }
-{
-    if walk.is_empty() {
-        return walk;
-    }
-    &walk[1..]
-}
-
-/// Whether the file of the first of the rows of a walk is held, as `holds` says, by the others; no walk holds none.
 fn is_held(files: &[Taken], walk: &[u32], place: u64) -> bool
     requires { columns.AreRows files.now walk.now }
     ensures { result ≡ spec.is_held files.now walk.now place }
 {
-    if walk.is_empty() {
+    let [_, others @ ..] = walk else {
         return false;
-    }
-    holds(files, &files[walk[0] as usize], others(walk), place)
+    };
+    holds(files, &files[walk[0] as usize], others, place)
 }
 
-/// Which files hold at these places, each looked at once.
-fn held_rows(alloc: Global, table: &RunTable<'_>, places: &[u64]) -> Result<Vec<bool>, AllocError>
-    requires table { columns.IsRunTableOfSome table.now }
-    requires places { length places.now ≡ length table.now.files.now }
+fn held_rows(alloc: Global, table: &RunTable<'_>, places: &[u64]) -> Result<Vec<bool>, NoMemory>
+    requires { spec.HavePlaces table.now places.now }
     ensures { IfOk result (λ v. v.items ≡ spec.held_rows table.now places.now) }
 {
     let mut held = Vec::new(alloc);
@@ -100,34 +72,17 @@ fn held_rows(alloc: Global, table: &RunTable<'_>, places: &[u64]) -> Result<Vec<
     Ok(held)
 }
 
-fn is_held_row(held: &[bool], row: u32) -> bool
-    requires { row < length held.now }
-    ensures { result ≡ spec.is_held_row held.now row }
-{
-    held[row as usize]
-}
-
-/// Whether all of these rows hold.
-fn all_held(held: &[bool], walk: &[u32]) -> bool
-    requires { columns.AreBelow (length held.now) walk.now }
-    ensures { result ≡ spec.all_held held.now walk.now }
-{
-    for row in walk {
-        if !is_held_row(held, *row) {
-            return false;
-        }
-    }
-    true
-}
-
 fn is_stale(table: &RunTable<'_>, held: &[bool], row: usize) -> bool
     requires { columns.AreBelow (length held.now) (columns.walk_of table.now row) }
     ensures { result ≡ spec.stale_at table.now held.now row }
 {
-    if !table.is_candidate(row) {
-        return false;
+    let walk = table.walk(row);
+    for member in walk {
+        if !held[*member as usize] {
+            return table.is_candidate(row);
+        }
     }
-    !all_held(held, table.walk(row))
+    false
 }
 
 /// Which names are stale, at these places, one for each row: they may be prelinked, and it is not so that each member of their walks, themselves too, has a mark as they are made now, stands at its planned slot, and has a list that tells the others.
@@ -135,9 +90,8 @@ pub fn stale_rows(
     alloc: Global,
     table: &RunTable<'_>,
     places: &[u64],
-) -> Result<Rows<bool>, AllocError>
-    requires table { columns.IsRunTableOfSome table.now }
-    requires places { length places.now ≡ length table.now.files.now }
+) -> Result<Rows<bool>, NoMemory>
+    requires { spec.HavePlaces table.now places.now }
     ensures { IfOk result (λ stale. stale ≡ spec.stale_rows table.now places.now) }
 {
     let held = held_rows(alloc, table, places)?;
@@ -151,7 +105,6 @@ pub fn stale_rows(
 /// The last stamp that there is, 2^32 - 1.
 pub const LAST_STAMP: u32 = 4_294_967_295;
 
-/// The greatest of a mark's own stamp and those in its list.
 fn greatest_in(marked: &Marked) -> u32
     ensures { result ≡ spec.greatest_in marked.now }
 {
@@ -162,51 +115,31 @@ fn greatest_in(marked: &Marked) -> u32
     most
 }
 
-fn greatest_of_file(taken: &Taken) -> u32
-    ensures { result ≡ spec.greatest_of_file taken.now }
-{
-    match taken.marked() {
-        None => 0,
-        Some(marked) => greatest_in(marked),
-    }
-}
-
-/// The greatest of a first stamp and those of all marks and of their lists.
 fn greatest_of_files(last: u32, files: &[Taken]) -> u32
     ensures { result ≡ spec.greatest_of_files last files.now }
 {
     let mut most = last;
     for taken in files {
-        most = most.max(greatest_of_file(taken));
+        if let Some(marked) = taken.marked() {
+            most = most.max(greatest_in(marked));
+        }
     }
     most
 }
 
-/// The stamp of a run at a moment, past the greatest so far.
+/// The stamp that the stale names of a run at a moment get: the greater of the moment and one more than the greatest of `last`, the stamps of all marks and those in their lists. It is `last` where no name is stale. `StampsSpent` comes exactly where one is and that greatest stamp is the last that there is.
 #[tactic(auto, unfolding(crate::specs::Plans::stamp_after))]
-fn stamp_after(greatest: u32, now: u32) -> Result<u32, ConeFault>
-    ensures { result ≡ plans.stamp_after greatest now }
+pub fn run_stamp(files: &[Taken], stale: &[bool], last: u32, now: u32) -> Result<u32, ConeFault>
+    ensures { Answers stops_memory result (spec.run_stamp files.now stale.now last now) }
 {
+    if !stale.iter().any(|flag| *flag) {
+        return Ok(last);
+    }
+    let greatest = greatest_of_files(last, files);
     if greatest == LAST_STAMP {
         return Err(ConeFault::StampsSpent(greatest));
     }
     Ok(now.max(greatest + 1))
-}
-
-fn any_stale(stale: &[bool]) -> bool
-    ensures { result ≡ list_any (λ b. b) stale.now }
-{
-    stale.iter().any(|flag| *flag)
-}
-
-/// The stamp that the stale names of a run at a moment get: the greater of the moment and one more than the greatest of `last`, the stamps of all marks and those in their lists. It is `last` where no name is stale. `StampsSpent` comes exactly where one is and that greatest stamp is the last that there is.
-pub fn run_stamp(files: &[Taken], stale: &[bool], last: u32, now: u32) -> Result<u32, ConeFault>
-    ensures { Answers stops_memory result (spec.run_stamp files.now stale.now last now) }
-{
-    if !any_stale(stale) {
-        return Ok(last);
-    }
-    stamp_after(greatest_of_files(last, files), now)
 }
 
 fn next_stamp_of_file(taken: &Taken, is_stale: bool, stamp: u32) -> u32
@@ -224,7 +157,7 @@ pub fn stamps_of(
     files: &[Taken],
     stale: &[bool],
     stamp: u32,
-) -> Result<Rows<u32>, AllocError>
+) -> Result<Rows<u32>, NoMemory>
     requires { length stale.now ≡ length files.now }
     ensures { IfOk result (λ v. v ≡ spec.stamps_of files.now stale.now stamp) }
 {

@@ -6,69 +6,29 @@ use crate::ConeFault;
 use pl_base::Text;
 use pl_io::NoMemory;
 use pl_slots::PlanFault;
-use std::alloc::AllocError;
-use std::fmt::{self, Debug, Formatter, Write};
-use thiserror::Error;
 
 /// Why a run has no plan.
-#[derive(Drop, Error)]
+#[derive(Drop)]
 pub enum PlanningFault {
     /// No hole of the region that is left holds a library at an address that it wants.
     NoSlot {
         /// The name of the library's file.
         name: Text,
-
         /// How many bytes of addresses it wants.
         span: u64,
-
         /// How many bytes the greatest hole has, 0 where there is none.
         hole: u64,
     },
-
     /// A file is stale, and the greatest stamp, which this is, is the last that there is.
     StampsSpent(u32),
-
     /// There was no memory for the answer.
     NoMemory,
-}
-
-impl fmt::Display for PlanningFault {
-    fn fmt<W: Write>(&self, out: &mut Formatter<W>) -> fmt::Result {
-        let cause = match self {
-            PlanningFault::NoSlot { .. } => "no slot",
-            PlanningFault::StampsSpent(_) => "no stamp is left",
-            PlanningFault::NoMemory => "out of memory",
-        };
-        out.write_str(cause)
-    }
-}
-
-impl Debug for PlanningFault {
-    fn fmt<W: Write>(&self, out: &mut Formatter<W>) -> fmt::Result {
-        match self {
-            PlanningFault::NoSlot { name, span, hole } => write!(
-                out,
-                "NoSlot {} {span} {hole}",
-                name.as_str()
-            ),
-            PlanningFault::StampsSpent(stamp) => write!(out, "StampsSpent {stamp}"),
-            PlanningFault::NoMemory => out.write_str("NoMemory"),
-        }
-    }
 }
 
 impl From<NoMemory> for PlanningFault {
     ghost from_gives = { λ _ fault. fault ≡ faults.NoMemory };
 
     fn from(_: NoMemory) -> PlanningFault {
-        PlanningFault::NoMemory
-    }
-}
-
-impl From<AllocError> for PlanningFault {
-    ghost from_gives = { λ _ fault. fault ≡ faults.NoMemory };
-
-    fn from(_: AllocError) -> PlanningFault {
         PlanningFault::NoMemory
     }
 }

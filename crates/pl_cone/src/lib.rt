@@ -18,7 +18,6 @@ mod skip;
 mod slots;
 mod table;
 mod taken;
-mod taking;
 mod values;
 mod walking;
 
@@ -31,7 +30,6 @@ pub use planning::{Asked, RowPlan, plan_of};
 pub use scopes::WalkScope;
 pub use skip::{ConeFault, Skip};
 pub use table::{RunTable, index_of};
-pub use taken::Taken;
-pub use taking::take_file;
+pub use taken::{Taken, take_file};
 pub use values::{WalkLinking, modules_of, sought};
 pub use walking::{FolderWalks, walks_of};

@@ -13,10 +13,8 @@ use pl_elf::constants::{
 };
 use pl_object::Reloc;
 use pl_scope::{Found, Index, Reference, Scope, own_symbol};
-use pl_sym::Symbol;
 use pl_value::reference_of;
 
-/// Whether a kind gives the address of its symbol.
 #[tactic(auto, unfolding(crate::specs::OneWord::is_of_address))]
 fn is_of_address(kind: u32) -> bool
     ensures { result ≡ spec.is_of_address kind }
@@ -24,7 +22,6 @@ fn is_of_address(kind: u32) -> bool
     kind == R_X86_64_64 || kind == R_X86_64_GLOB_DAT || kind == R_X86_64_JUMP_SLOT
 }
 
-/// Whether a kind refers to no symbol.
 #[tactic(auto, unfolding(crate::specs::OneWord::is_without_symbol))]
 fn is_without_symbol(kind: u32) -> bool
     ensures { result ≡ spec.is_without_symbol kind }
@@ -32,32 +29,19 @@ fn is_without_symbol(kind: u32) -> bool
     kind == R_X86_64_RELATIVE || kind == R_X86_64_NONE
 }
 
-/// The symbol that was found in a scope.
-#[tactic(auto, using(pl_scope::proofs::MemberLaws::length_objects))]
-fn found_symbol<'a>(own: &Scope<'a>, found: Found) -> &'a Symbol
-    requires { IsSymbol (objects own.now) found.member found.symbol }
-    ensures { one_symbol.symbol_of (objects own.now) found ≡ Some result.now }
-{
-    let object = own.object(found.member);
-    &object.symbols.as_slice()[found.symbol as usize]
-}
-
-/// Whether the name of a reference of the first member has one object at most that defines it.
-fn is_single(index: &Index, own: &Scope<'_>, reference: Reference) -> bool
-    requires { IsSymbol (objects own.now) reference.member reference.symbol }
-    ensures { OnTrue result (one_symbol.HasSingleName index.now (objects own.now) reference) }
-{
-    let symbol = own_symbol(own, reference);
-    !index.may_share(symbol.name.as_slice())
-}
-
-/// Whether a reference of the first member finds a symbol with an address, the same in every scope.
+/// Whether a reference of the first member finds a symbol with an address, and its name has one object at most that defines it.
 fn is_settled(index: &Index, own: &Scope<'_>, reference: Reference, found: Found) -> bool
     requires reference { IsSymbol (objects own.now) reference.member reference.symbol }
     requires found { finds (objects own.now) reference ≡ Some found }
     ensures { OnTrue result (one_symbol.FindsOneSymbolBy index.now (objects own.now) reference) }
 {
-    !found_symbol(own, found).is_tls() && is_single(index, own, reference)
+    let object = own.object(found.member);
+    let symbol = &object.symbols.as_slice()[found.symbol as usize];
+    if symbol.is_tls() {
+        return false;
+    }
+    let name = own_symbol(own, reference).name.as_slice();
+    !index.may_share(name)
 }
 
 /// Whether a relocation of a library, the first member of its own walk, is known to give the same in every walk of the folder that holds the library: it refers to no symbol, or it gives the address of a symbol that no second object of the folder defines and that it finds in the own walk and that is not thread-local. `found` is what it finds there.

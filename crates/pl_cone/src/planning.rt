@@ -1,5 +1,5 @@
 // What a run plans.
-ghost use Rattle.std.specs.Prelude.{◌≡◌, IfOk};
+ghost use Rattle.std.specs.Prelude.{IfOk};
 ghost use Rattle.pl_base.specs.Answers.{AnswersAs};
 ghost use Rattle.pl_cone.specs.Faulted.{is_memory};
 ghost use Rattle.pl_cone.specs.Plans.{planned};
@@ -19,16 +19,12 @@ use std::alloc::Global;
 pub struct Asked<'a> {
     /// The rows of the cache.
     pub rows: &'a [Slot],
-
     /// The stamp of the last run that gave one, by the cache.
     pub last: u32,
-
     /// The addresses from which slots are given.
     pub region: Range,
-
     /// Whether libraries may share addresses that the walk of no name holds together.
     pub share: bool,
-
     /// When the run is, in seconds since 1970.
     pub moment: u32,
 }
@@ -38,16 +34,12 @@ pub struct Asked<'a> {
 pub struct RowPlan {
     /// The slots of the libraries that may be prelinked, in the order of the files.
     pub slots: Rows<Slot>,
-
     /// Where each file's slot starts, 0 where it has none.
     pub places: Rows<u64>,
-
     /// Whether each may be prelinked and is not current.
     pub stale: Rows<bool>,
-
     /// The stamp of each library after the run; 0 for every other file.
     pub stamps: Rows<u32>,
-
     /// The stamp that stale libraries get; the last one so far where no file is stale.
     pub stamp: u32,
 }

@@ -1,7 +1,5 @@
 // The scope of a walk that is worked on.
-ghost use Rattle.std.specs.Prelude.{◌≡◌, ◌≤◌, ◌<◌, IfOk, OnOk, None, length, replicate};
-ghost use Rattle.std.specs.List.{All};
-ghost use Rattle.pl_scope.specs.Scope.{walked, IsAccepted};
+ghost use Rattle.std.specs.Prelude.{◌≡◌, ◌≤◌, IfOk, None, length, replicate};
 ghost use Rattle.pl_cone.specs.Candidates.{zeros};
 ghost use Rattle.pl_cone.specs.Table as spec;
 ghost use Rattle.pl_cone.specs.Taken.{WereTaken};
@@ -17,37 +15,10 @@ use std::alloc::{AllocError, Global};
 pub struct WalkScope<'f> {
     /// The members of the walk.
     pub scope: Scope<'f>,
-
     /// For each row of the folder the member that it is, if it is one.
     pub positions: Vec<Option<u32>>,
 }
 
-/// Adds the file of a row as a member, where it has an object.
-fn push_member<'f>(
-    alloc: Global,
-    members: &mut Vec<Member<'f>>,
-    files: &'f [Taken],
-    row: u32,
-) -> Result<(), AllocError>
-    requires row { row < length files.now }
-    requires file { spec.IsAcceptedRow files.now row }
-    requires members { All (λ m. IsAccepted m.object.now) members.old.items }
-    ensures walked { OnOk result (walked members.new.items
-        ≡ spec.with_member (walked members.old.items) files.now row) }
-    ensures accepted { OnOk result (All (λ m. IsAccepted m.object.now) members.new.items) }
-{
-    let taken = &files[row as usize];
-    let Some(object) = taken.object() else {
-        return Ok(());
-    };
-    members.push(Member {
-        name: Text::copy_of(alloc, taken.name.as_str())?,
-        object,
-    })?;
-    Ok(())
-}
-
-/// The scope of the files of rows, in their order.
 fn scope_of<'f>(alloc: Global, files: &'f [Taken], rows: &[u32]) -> Result<Scope<'f>, AllocError>
     requires files { WereTaken files.now }
     requires rows { spec.AreRows files.now rows.now }
@@ -55,12 +26,15 @@ fn scope_of<'f>(alloc: Global, files: &'f [Taken], rows: &[u32]) -> Result<Scope
 {
     let mut members = Vec::new(alloc);
     for row in rows {
-        push_member(alloc, &mut members, files, *row)?;
+        let taken = &files[*row as usize];
+        if let Some(object) = taken.object() {
+            let name = Text::copy_of(alloc, taken.name.as_str())?;
+            members.push(Member { name, object })?;
+        }
     }
     Ok(Scope::new(members))
 }
 
-/// No positions of so many rows.
 fn no_positions(alloc: Global, count: usize) -> Result<Vec<Option<u32>>, AllocError>
     ensures { IfOk result (λ v. v.items ≡ replicate count None) }
 {
@@ -71,7 +45,6 @@ fn no_positions(alloc: Global, count: usize) -> Result<Vec<Option<u32>>, AllocEr
     Ok(positions)
 }
 
-/// Where the rows of a folder of so many stand among some of them.
 fn positions_of(alloc: Global, count: usize, rows: &[u32]) -> Result<Vec<Option<u32>>, AllocError>
     requires within { spec.AreBelow count rows.now }
     requires few { length rows.now ≤ 256 }

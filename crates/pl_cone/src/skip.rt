@@ -5,101 +5,45 @@ ghost use Rattle.pl_cone.specs.declared.skip.Skip.TheVariants as skips;
 
 use pl_base::Text;
 use pl_io::NoMemory;
-use pl_scope::WalkFault;
 use pl_tls::TlsFault;
 use pl_value::NamedFault;
 use std::alloc::{AllocError, AllocFailed};
-use std::fmt;
-use thiserror::Error;
 
 /// Why a name is not prelinked. Of several causes the first counts: those of the walk in its order, then `Static`, then form faults in the order of the walk, then `TlsTooLarge`, then the link refusals in the order of the relocations.
-#[derive(Drop, Error)]
+#[derive(Drop)]
 pub enum Skip {
     /// A needed file is not there.
     NotThere(Text),
-
     /// A file bears a mark, and is no form.
     BadMark(Text),
-
     /// An acceptance clause refuses a file.
     Refused {
         /// The file's name.
         name: Text,
-
         /// The number of the clause.
         number: u32,
-
         /// What of the file the clause refuses: a tag's number for clauses 10 and 11, a relocation's kind for clause 23, else 0.
         argument: u64,
     },
-
     /// The name's file is a static program.
     Static(Text),
-
     /// An object after the first is no library, and this is its name; or an object after the first needs the first, which is a program of this name.
     NeededIsProgram(Text),
-
     /// The walk has too many names, and this is the first that is too many.
     TooMany(Text),
-
     /// A member of the walk has no form.
     Form {
         /// The member's name.
         name: Text,
-
         /// The number of its first form fault.
         number: u32,
     },
-
     /// An offset of thread-local storage is too great.
     TlsTooLarge,
-
     /// A relocation of a member has no value.
     Link(NamedFault),
-
     /// There was no memory for the answer.
     NoMemory,
-}
-
-impl fmt::Display for Skip {
-    fn fmt<W: fmt::Write>(&self, f: &mut fmt::Formatter<W>) -> fmt::Result {
-        let cause = match self {
-            Skip::NotThere(_) => "a file is not there",
-            Skip::BadMark(_) => "a mark, and no form",
-            Skip::Refused { .. } => "a file is refused",
-            Skip::Static(_) => "a static program",
-            Skip::NeededIsProgram(_) => "a program is needed by another object",
-            Skip::TooMany(_) => "the walk has too many members",
-            Skip::Form { .. } => "an object has no form",
-            Skip::TlsTooLarge => "thread-local storage is too large",
-            Skip::Link(fault) => fault.cause.message(),
-            Skip::NoMemory => "out of memory",
-        };
-        f.write_str(cause)
-    }
-}
-
-impl fmt::Debug for Skip {
-    fn fmt<W: fmt::Write>(&self, f: &mut fmt::Formatter<W>) -> fmt::Result {
-        let (cause, name) = match self {
-            Skip::NotThere(name) => ("NotThere", name.as_str()),
-            Skip::BadMark(name) => ("BadMark", name.as_str()),
-            Skip::Refused { name, .. } => ("Refused", name.as_str()),
-            Skip::Static(name) => ("Static", name.as_str()),
-            Skip::NeededIsProgram(name) => ("NeededIsProgram", name.as_str()),
-            Skip::TooMany(name) => ("TooMany", name.as_str()),
-            Skip::Form { name, .. } => ("Form", name.as_str()),
-            Skip::TlsTooLarge => ("TlsTooLarge", ""),
-            Skip::Link(fault) => (fault.cause.name(), fault.object.as_str()),
-            Skip::NoMemory => ("NoMemory", ""),
-        };
-        f.write_str(cause)?;
-        if name.is_empty() {
-            return Ok(());
-        }
-        f.write_str(" ")?;
-        f.write_str(name)
-    }
 }
 
 impl From<NoMemory> for Skip {
@@ -126,21 +70,6 @@ impl<T: Drop> From<AllocFailed<T>> for Skip {
     }
 }
 
-impl From<WalkFault> for Skip {
-    ghost use Rattle.pl_cone.specs.Skips.{of_walk};
-
-    ghost from_gives = { λ fault skip. skip ≡ of_walk fault };
-
-    fn from(fault: WalkFault) -> Skip {
-        match fault {
-            WalkFault::NeededIsProgram(name) => Skip::NeededIsProgram(name),
-            WalkFault::TooMany(name) => Skip::TooMany(name),
-            WalkFault::NotThere(name) => Skip::NotThere(name),
-            WalkFault::NoMemory => Skip::NoMemory,
-        }
-    }
-}
-
 impl From<TlsFault> for Skip {
     ghost use Rattle.pl_cone.specs.Skips.{of_tls};
 
@@ -155,37 +84,18 @@ impl From<TlsFault> for Skip {
 }
 
 /// Why a run has no stamp.
-#[derive(Clone, Copy, Debug, PartialEq, Eq, Error)]
+#[derive(Clone, Copy, Debug, PartialEq, Eq)]
 pub enum ConeFault {
     /// The greatest stamp is the last that there is, 2^32 - 1, and a name would get a later one.
     StampsSpent(u32),
-
     /// There was no memory for the answer.
     NoMemory,
-}
-
-impl fmt::Display for ConeFault {
-    fn fmt<W: fmt::Write>(&self, f: &mut fmt::Formatter<W>) -> fmt::Result {
-        let cause = match self {
-            ConeFault::StampsSpent(_) => "no stamp is left",
-            ConeFault::NoMemory => "out of memory",
-        };
-        f.write_str(cause)
-    }
 }
 
 impl From<NoMemory> for ConeFault {
     ghost from_gives = { λ _ fault. fault ≡ stops.NoMemory };
 
     fn from(_: NoMemory) -> ConeFault {
-        ConeFault::NoMemory
-    }
-}
-
-impl From<AllocError> for ConeFault {
-    ghost from_gives = { λ _ fault. fault ≡ stops.NoMemory };
-
-    fn from(_: AllocError) -> ConeFault {
         ConeFault::NoMemory
     }
 }

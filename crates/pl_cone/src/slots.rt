@@ -1,12 +1,8 @@
 // The slots of the libraries that may be prelinked.
-ghost use Rattle.std.specs.Prelude.{◌≡◌, ◌<◌, ◌^◌, IfOk, length, map};
-ghost use Rattle.std.specs.List.{All};
-ghost use Rattle.pl_base.specs.Answers.{Answers, because};
-ghost use Rattle.pl_cone.specs.Faulted.{is_memory, of_plan};
+ghost use Rattle.std.specs.Prelude.{◌≡◌, ◌<◌, IfOk, length, map};
+ghost use Rattle.pl_base.specs.Answers.{Answers};
+ghost use Rattle.pl_cone.specs.Faulted.{is_memory};
 ghost use Rattle.pl_cone.specs.Slots as spec;
-ghost use Rattle.pl_share.specs.Disjoint.{disjoint};
-ghost use Rattle.pl_share.specs.Shared.{plan_shared};
-ghost use Rattle.pl_slots.specs.Plan.{plan};
 ghost use Rattle.pl_cone.specs.Table as columns;
 
 use crate::{Asked, PlanningFault, RunTable};
@@ -14,20 +10,18 @@ use pl_base::{Rows, Text};
 use pl_io::NoMemory;
 use pl_share::{Walks, disjoint, plan_shared};
 use pl_slots::{Slot, Want, plan};
-use std::alloc::{AllocError, Global};
+use std::alloc::Global;
 
 /// The libraries of a table that may be prelinked.
 #[derive(Drop)]
 struct Wanting {
     /// What they want, in the order of their rows.
     wants: Rows<Want>,
-
     /// For each row the position of its want, if it has one.
     positions: Vec<Option<u32>>,
 }
 
-/// What the library of a row wants; None where it is none, or may not be prelinked.
-fn want_of(alloc: Global, table: &RunTable<'_>, row: usize) -> Result<Option<Want>, AllocError>
+fn want_of(alloc: Global, table: &RunTable<'_>, row: usize) -> Result<Option<Want>, NoMemory>
     requires { row < length table.now.files.now }
     ensures { IfOk result (λ want. want ≡ spec.want_at table.now row) }
 {
@@ -48,7 +42,6 @@ fn want_of(alloc: Global, table: &RunTable<'_>, row: usize) -> Result<Option<Wan
     }))
 }
 
-/// Adds what a row wants, if anything.
 fn add_want(wanting: &mut Wanting, want: Option<Want>) -> Result<(), NoMemory>
     ensures { spec.AddsWant want wanting.old wanting.new result }
 {
@@ -64,15 +57,13 @@ fn add_want(wanting: &mut Wanting, want: Option<Want>) -> Result<(), NoMemory>
     Ok(())
 }
 
-/// What all want.
 fn wanting_of(alloc: Global, table: &RunTable<'_>) -> Result<Wanting, NoMemory>
     requires { columns.IsRunTableOfSome table.now }
     ensures { IfOk result (spec.IsWanting table.now) }
 {
-    let mut wanting = Wanting {
-        wants: Rows::new(alloc),
-        positions: Vec::new(alloc),
-    };
+    let wants = Rows::new(alloc);
+    let positions = Vec::new(alloc);
+    let mut wanting = Wanting { wants, positions };
     for row in 0..table.files.len() {
         let want = want_of(alloc, table, row)?;
         add_want(&mut wanting, want)?;
@@ -80,14 +71,7 @@ fn wanting_of(alloc: Global, table: &RunTable<'_>) -> Result<Wanting, NoMemory>
     Ok(wanting)
 }
 
-// ---- slots that walks may share
-
-/// The positions of the rows of a walk that want slots.
-fn positions_in(
-    alloc: Global,
-    positions: &[Option<u32>],
-    walk: &[u32],
-) -> Result<Rows<u32>, AllocError>
+fn wanted_in(alloc: Global, positions: &[Option<u32>], walk: &[u32]) -> Result<Rows<u32>, NoMemory>
     requires { columns.AreBelow (length positions.now) walk.now }
     ensures { IfOk result (λ v. v ≡ spec.positions_in positions.now walk.now) }
 {
@@ -98,52 +82,17 @@ fn positions_in(
     Ok(all)
 }
 
-/// For each name that may be prelinked the positions of the libraries that its walk holds.
-fn table_walks(alloc: Global, table: &RunTable<'_>, wanting: &Wanting) -> Result<Walks, AllocError>
-    requires table { columns.IsRunTableOfSome table.now }
-    requires wanting { spec.IsWanting table.now wanting.now }
+fn table_walks(alloc: Global, table: &RunTable<'_>, wanting: &Wanting) -> Result<Walks, NoMemory>
+    requires { spec.IsWantedBy table.now wanting.now }
     ensures { IfOk result (λ walks. walks.rows ≡ spec.table_walks table.now) }
 {
     let mut rows = Rows::new(alloc);
     for row in 0..table.files.len() {
         if table.is_candidate(row) {
-            rows.push(positions_in(alloc, &wanting.positions, table.walk(row))?)?;
+            rows.push(wanted_in(alloc, &wanting.positions, table.walk(row))?)?;
         }
     }
     Ok(Walks { rows })
-}
-
-// ---- all slots
-
-/// Slots of which no two share an address.
-fn apart_slots(
-    alloc: Global,
-    asked: &Asked<'_>,
-    wants: &[Want],
-) -> Result<Rows<Slot>, PlanningFault>
-    requires { All (λ w. 0 < w.align) wants.now }
-    ensures value { Answers is_memory result (because of_plan
-        (plan (disjoint asked.now.rows.now wants.now asked.now.region)
-        wants.now asked.now.region)) }
-    ensures names { IfOk result (spec.HaveNamesIf wants.now) }
-{
-    let kept = disjoint(alloc, asked.rows, wants, asked.region)?;
-    Ok(plan(alloc, kept.as_slice(), wants, asked.region)?)
-}
-
-/// Slots of which two may share addresses that no walk holds together.
-fn shared_slots(
-    alloc: Global,
-    asked: &Asked<'_>,
-    wants: &[Want],
-    walks: &Walks,
-) -> Result<Rows<Slot>, PlanningFault>
-    requires { All (λ w. 0 < w.align) wants.now }
-    ensures value { Answers is_memory result (because of_plan
-        (plan_shared asked.now.rows.now wants.now walks.now.rows asked.now.region)) }
-    ensures names { IfOk result (spec.HaveNamesIf wants.now) }
-{
-    Ok(plan_shared(alloc, asked.rows, wants, walks, asked.region)?)
 }
 
 /// The slots of all that want some, in their order. Where libraries may share addresses, those may overlap that no walk holds together; else no two overlap.
@@ -153,20 +102,20 @@ fn planned_slots(
     asked: &Asked<'_>,
     wanting: &Wanting,
 ) -> Result<Rows<Slot>, PlanningFault>
-    requires table { columns.IsRunTableOfSome table.now }
-    requires wanting { spec.IsWanting table.now wanting.now }
+    requires { spec.IsWantedBy table.now wanting.now }
     ensures value { Answers is_memory result (spec.table_slots table.now asked.now) }
     ensures names { IfOk result (spec.HaveWantedNames (spec.table_wants table.now)) }
 {
     let wants = wanting.wants.as_slice();
-    if !asked.share {
-        return apart_slots(alloc, asked, wants);
+    if asked.share {
+        let walks = table_walks(alloc, table, wanting)?;
+        Ok(plan_shared(alloc, asked.rows, wants, &walks, asked.region)?)
+    } else {
+        let kept = disjoint(alloc, asked.rows, wants, asked.region)?;
+        Ok(plan(alloc, kept.as_slice(), wants, asked.region)?)
     }
-    let walks = table_walks(alloc, table, wanting)?;
-    shared_slots(alloc, asked, wants, &walks)
 }
 
-/// The start of a slot by its position, 0 where there is none.
 fn start_of(slots: &[Slot], position: Option<u32>) -> u64
     ensures { result ≡ spec.start_at slots.now position }
 {
@@ -179,12 +128,7 @@ fn start_of(slots: &[Slot], position: Option<u32>) -> u64
     }
 }
 
-/// The starts of the slots by rows.
-fn places_by(
-    alloc: Global,
-    slots: &[Slot],
-    positions: &[Option<u32>],
-) -> Result<Rows<u64>, AllocError>
+fn places(alloc: Global, slots: &[Slot], positions: &[Option<u32>]) -> Result<Rows<u64>, NoMemory>
     ensures { IfOk result (λ v. v ≡ map (spec.start_at slots.now) positions.now) }
 {
     let mut places = Rows::new(alloc);
@@ -199,7 +143,6 @@ fn places_by(
 pub struct PlannedSlots {
     /// In the order of their rows.
     pub slots: Rows<Slot>,
-
     /// For each row where its slot starts, 0 where it has none.
     pub places: Rows<u64>,
 }
@@ -215,6 +158,6 @@ pub fn slots_of(
 {
     let wanting = wanting_of(alloc, table)?;
     let slots = planned_slots(alloc, table, asked, &wanting)?;
-    let places = places_by(alloc, slots.as_slice(), &wanting.positions)?;
+    let places = places(alloc, slots.as_slice(), &wanting.positions)?;
     Ok(PlannedSlots { slots, places })
 }

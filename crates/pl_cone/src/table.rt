@@ -1,47 +1,29 @@
 // The table of a run.
-ghost use Rattle.std.specs.Prelude.{◌≡◌, IfOk, map};
-ghost use Rattle.std.specs.Option.{option_map};
+ghost use Rattle.std.specs.Prelude.{◌≡◌, IfOk};
 ghost use Rattle.pl_scope.specs.Folder.{IsFolderIndex};
 ghost use Rattle.pl_cone.specs.Table as spec;
 ghost use Rattle.pl_cone.specs.Taken.{WereTaken};
 
-use crate::linking::{Linked, WalkedFiles, links_of};
+use crate::linking::{Linked, WalkedFiles};
 use crate::walking::{FolderWalks, walks_of};
 use crate::{Link, Skip, Taken};
 use pl_base::Rows;
 use pl_io::NoMemory;
-use pl_object::Object;
 use pl_scope::Index;
-use std::alloc::{AllocError, Global};
+use std::alloc::Global;
 
 /// The files of a folder in the order of their names, and what is known of each, by its row's number.
 #[derive(Drop)]
 pub struct RunTable<'f> {
     pub files: &'f [Taken],
-
     /// For each file the rows of the members of its name's walk, in the order of the walk, its own first; none where the walk is refused.
     pub walks: Rows<Rows<u32>>,
-
     /// The rows of the objects that define a name, by its hash.
     pub index: Index,
-
     /// For each file what its own relocations find by its walk; of no relocations where it may not be prelinked.
     pub links: Rows<Link>,
-
     /// For each file the first cause why it may not be prelinked; None where it may be. It is no want of memory.
     pub causes: Rows<Option<Skip>>,
-}
-
-/// The objects of the originals of files, in their order.
-fn objects_of<'f>(alloc: Global, files: &'f [Taken]) -> Result<Vec<Option<&'f Object>>, AllocError>
-    ensures { IfOk result (λ v. map (option_map (λ o. o.now)) v.items
-        ≡ spec.folder_objects files.now) }
-{
-    let mut objects = Vec::new(alloc);
-    for taken in files {
-        objects.push(taken.object())?;
-    }
-    Ok(objects)
 }
 
 /// The index of what the originals of files define. It fails only for want of memory.
@@ -49,7 +31,10 @@ pub fn index_of(alloc: Global, files: &[Taken]) -> Result<Index, NoMemory>
     requires { WereTaken files.now }
     ensures { IfOk result (IsFolderIndex (spec.folder_objects files.now)) }
 {
-    let objects = objects_of(alloc, files)?;
+    let mut objects = Vec::new(alloc);
+    for taken in files {
+        objects.push(taken.object())?;
+    }
     Index::of(alloc, &objects)
 }
 
@@ -70,7 +55,7 @@ impl<'f> RunTable<'f> {
             walks: walks.as_slice(),
             index: &index,
         };
-        let linked = links_of(alloc, &walked, causes)?;
+        let linked = walked.links_of(alloc, causes)?;
         let Linked { links, causes } = linked;
         Ok(RunTable {
             files,
@@ -85,10 +70,7 @@ impl<'f> RunTable<'f> {
     pub fn is_candidate(&self, row: usize) -> bool
         ensures { result ≡ spec.is_candidate_row self.now row }
     {
-        match self.causes.as_slice().get(row) {
-            None => false,
-            Some(cause) => cause.is_none(),
-        }
+        matches!(self.causes.as_slice().get(row), Some(None))
     }
 
     /// The rows of the walk of a row; none where that is refused.

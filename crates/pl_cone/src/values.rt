@@ -1,48 +1,33 @@
 // What is asked of the members of a walk: their thread-local storage, what their references find, and whether their relocations have values.
-ghost use Rattle.std.specs.Prelude.{◌≡◌, ◌<◌, ◌^◌, IfOk, length, map};
-ghost use Rattle.std.specs.List.{All};
+ghost use Rattle.std.specs.Prelude.{◌≡◌, ◌<◌, IfOk, length, map};
 ghost use Rattle.pl_base.specs.Answers.{Answers};
 ghost use Rattle.pl_cone.specs.Candidates as candidates;
 ghost use Rattle.pl_cone.specs.Links as spec;
 ghost use Rattle.pl_scope.specs.Folder.{IsIndexAmong};
-ghost use Rattle.pl_scope.specs.Scope.{objects, IsSymbol};
+ghost use Rattle.pl_scope.specs.Scope.{objects, AreReferences, IsSymbol};
 ghost use Rattle.pl_tls.specs.Layout.{is_memory, offsets};
 ghost use Rattle.pl_value.specs.Definers.{IsSought};
 ghost use Rattle.pl_value.specs.Meanings as value;
 ghost use Rattle.pl_value.specs.Values.{reference};
 
-use crate::Link;
+use crate::{Link, Skip};
 use pl_base::Rows;
 use pl_object::Reloc;
-use pl_scope::{Among, Found, Member, Reference, Scope, find_among};
-use pl_tls::{Block, Module, TlsFault, offsets};
-use pl_value::{LinkFault, OrdinaryFault, Places, reference_of, word_of};
+use pl_scope::{Among, Found, Reference, Scope, find_among};
+use pl_tls::{Module, TlsFault, offsets};
+use pl_value::{LinkFault, Places, named_fault, reference_of, word_of};
 use std::alloc::{AllocError, Global};
-
-fn blocks_of(alloc: Global, members: &[Member<'_>]) -> Result<Vec<Option<Block>>, AllocError>
-    ensures { IfOk result (λ blocks. blocks.items ≡ map (λ m. m.object.now.tls) members.now) }
-{
-    let mut blocks = Vec::new(alloc);
-    for member in members {
-        blocks.push(member.object.tls)?;
-    }
-    Ok(blocks)
-}
-
-/// What each member has of thread-local storage.
-fn blocks(alloc: Global, scope: &Scope<'_>) -> Result<Vec<Option<Block>>, AllocError>
-    ensures value { IfOk result (λ blocks. blocks.items ≡ candidates.blocks scope.now) }
-    ensures few { IfOk result (λ blocks. length blocks.items < 2 ^ 32) }
-{
-    blocks_of(alloc, scope.members())
-}
 
 /// The modules of thread-local storage of the members, or that an offset is too great, or a want of memory.
 pub fn modules_of(alloc: Global, scope: &Scope<'_>) -> Result<Rows<Module>, TlsFault>
     ensures { Answers is_memory result (offsets (candidates.blocks scope.now)) }
 {
-    let blocks = blocks(alloc, scope)?;
-    offsets(alloc, &blocks)
+    let members = scope.members();
+    let mut blocks = Rows::new(alloc);
+    for member in members {
+        blocks.push(member.object.tls)?;
+    }
+    offsets(alloc, blocks.as_slice())
 }
 
 /// What the symbol of a reference finds, by the index of the folder. Symbol 0 is no reference.
@@ -66,104 +51,89 @@ pub struct WalkLinking<'s, 'f> {
     pub among: Among<'s>,
 }
 
-/// What a relocation of a member finds, where it has a value.
-#[tactic(auto, unfolding(pl_value::specs::Meanings::meaning))]
-fn valued(
-    linking: &WalkLinking<'_, '_>,
-    member: u32,
-    reloc: &Reloc,
-) -> Result<Option<Found>, LinkFault>
-    requires linking { spec.IsLinking linking.now }
-    requires reference { IsSymbol (spec.objects_of linking.now) member reloc.now.symbol }
-    ensures value { spec.done result ≡ spec.row_has_in linking.now (value.row member reloc.now) }
-    ensures found { IfOk result (IsSought (spec.objects_of linking.now)
-        (reference member reloc.now)) }
-{
-    let found = sought(linking.scope, reference_of(member, reloc), &linking.among);
-    word_of(
-        linking.scope,
-        linking.places,
-        linking.modules,
-        member,
-        reloc,
-        found,
-    )?;
-    Ok(found)
-}
-
-/// What each relocation of the first member finds, in their order; or the first without a value.
-pub fn first_found(
-    alloc: Global,
-    linking: &WalkLinking<'_, '_>,
-) -> Result<Rows<Option<Found>>, OrdinaryFault>
-    requires linking { spec.IsLinking linking.now }
-    requires some { 0 < length linking.now.scope.now }
-    ensures { spec.FindsFirst linking.now result }
-{
-    let relocs = linking.scope.object(0).relocations.as_slice();
-    let mut all = Rows::new(alloc);
-    for reloc in relocs {
-        let found = valued(linking, 0, reloc)?;
-        all.push(found)?;
+impl WalkLinking<'_, '_> {
+    fn refused(&self, alloc: Global, fault: LinkFault) -> Result<Skip, AllocError>
+        ensures { IfOk result (λ skip. skip ≡ candidates.of_link self.now.scope.now fault) }
+    {
+        let named = named_fault(alloc, self.scope.members(), fault)?;
+        Ok(Skip::Link(named))
     }
-    Ok(all)
-}
 
-/// Whether the relocation of an index has a value, if there is one.
-fn value_at(
-    linking: &WalkLinking<'_, '_>,
-    member: u32,
-    relocs: &[Reloc],
-    index: u32,
-) -> Result<(), LinkFault>
-    requires linking { spec.IsLinking linking.now }
-    requires references { All (λ r. IsSymbol (spec.objects_of linking.now) member r.symbol)
-        relocs.now }
-    ensures { result ≡ spec.value_at linking.now member relocs.now index }
-{
-    match relocs.get(index as usize) {
-        None => Ok(()),
-        Some(reloc) => {
-            valued(linking, member, reloc)?;
-            Ok(())
+    #[tactic(auto, unfolding(pl_value::specs::Meanings::meaning))]
+    fn valued(&self, member: u32, reloc: &Reloc) -> Result<Option<Found>, LinkFault>
+        requires linking { spec.IsLinking self.now }
+        requires reference { IsSymbol (spec.objects_of self.now) member reloc.now.symbol }
+        ensures value { spec.done result ≡ spec.row_has_in self.now (value.row member reloc.now) }
+        ensures found { IfOk result (IsSought (spec.objects_of self.now)
+            (reference member reloc.now)) }
+    {
+        let found = sought(self.scope, reference_of(member, reloc), &self.among);
+        word_of(self.scope, self.places, self.modules, member, reloc, found)?;
+        Ok(found)
+    }
+
+    fn first_found(&self, alloc: Global) -> Result<Rows<Option<Found>>, Skip>
+        requires linking { spec.IsLinking self.now }
+        requires some { 0 < length self.now.scope.now }
+        ensures { spec.FindsOwn self.now result }
+    {
+        let relocs = self.scope.object(0).relocations.as_slice();
+        let mut all = Rows::new(alloc);
+        for reloc in relocs {
+            match self.valued(0, reloc) {
+                Ok(found) => all.push(found)?,
+                Err(fault) => return Err(self.refused(alloc, fault)?),
+            }
+        }
+        Ok(all)
+    }
+
+    /// The first of the remaining relocations of a member without a value; those that do not remain have one.
+    fn member_has_values(
+        &self,
+        member: u32,
+        relocs: &[Reloc],
+        remaining: &[u32],
+    ) -> Result<(), LinkFault>
+        requires linking { spec.IsLinking self.now }
+        requires references { AreReferences self.now.scope.now member relocs.now }
+        requires remaining { spec.TellsOf self.now member relocs.now remaining.now }
+        ensures { result ≡ spec.rows_have_in self.now (map (value.row member) relocs.now) }
+    {
+        for index in remaining {
+            if let Some(reloc) = relocs.get(*index as usize) {
+                self.valued(member, reloc)?;
+            }
+        }
+        Ok(())
+    }
+
+    /// The first relocation of the members after the first without a value. `links` has the remaining ones of the file of each row of the walk.
+    fn others_have_values(&self, walk: &[u32], links: &[Link]) -> Result<(), LinkFault>
+        requires linking { spec.IsLinking self.now }
+        requires walk { spec.HaveLinks self.now.scope.now walk.now links.now }
+        requires links { spec.TellOfOthers self.now walk.now links.now }
+        ensures { result ≡ spec.others_have self.now }
+    {
+        for member in 1..self.scope.count() {
+            let relocs = self.scope.object(member).relocations.as_slice();
+            let remaining = links[walk[member as usize] as usize].remaining.as_slice();
+            self.member_has_values(member, relocs, remaining)?;
+        }
+        Ok(())
+    }
+
+    /// What the relocations of the first member find, a program that is linked at 0; or the first of the walk that has no value. A program has no remaining ones.
+    pub(crate) fn linked(&self, alloc: Global, walk: &[u32], links: &[Link]) -> Result<Link, Skip>
+        requires linking { spec.IsLinkingAtZero self.now }
+        requires links { spec.MayLink self.now.scope.now walk.now links.now }
+        ensures { spec.LinksProgram self.now.scope.now result }
+    {
+        let found = self.first_found(alloc)?;
+        let remaining = Rows::new(alloc);
+        match self.others_have_values(walk, links) {
+            Ok(()) => Ok(Link { found, remaining }),
+            Err(fault) => Err(self.refused(alloc, fault)?),
         }
     }
-}
-
-/// The first of the remaining relocations of a member without a value; those that do not remain have one.
-fn member_has_values(
-    linking: &WalkLinking<'_, '_>,
-    member: u32,
-    relocs: &[Reloc],
-    remaining: &[u32],
-) -> Result<(), LinkFault>
-    requires linking { spec.IsLinking linking.now }
-    requires references { All (λ r. IsSymbol (spec.objects_of linking.now) member r.symbol)
-        relocs.now }
-    requires remaining { spec.TellsOf linking.now member relocs.now remaining.now }
-    ensures { result ≡ spec.rows_have_in linking.now (map (value.row member) relocs.now) }
-{
-    for index in remaining {
-        value_at(linking, member, relocs, *index)?;
-    }
-    Ok(())
-}
-
-/// The first relocation of the members after the first without a value. `links` has the remaining ones of the file of each row of the walk.
-pub fn others_have_values(
-    linking: &WalkLinking<'_, '_>,
-    walk: &[u32],
-    links: &[Link],
-) -> Result<(), LinkFault>
-    requires linking { spec.IsLinking linking.now }
-    requires walk { spec.HaveLinks linking.now.scope.now walk.now links.now }
-    requires links { spec.TellOfOthers linking.now walk.now links.now }
-    ensures { result ≡ spec.others_have linking.now }
-{
-    for member in 1..linking.scope.count() {
-        let relocs = linking.scope.object(member).relocations.as_slice();
-        let remaining = links[walk[member as usize] as usize].remaining.as_slice();
-        member_has_values(linking, member, relocs, remaining)?;
-    }
-    Ok(())
 }

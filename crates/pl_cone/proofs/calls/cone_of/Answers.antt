@@ -8,8 +8,11 @@ use Rattle.pl_cone.proofs.PlanLaws.{stale_long}
 use Rattle.pl_cone.proofs.PrelinkableLaws.{cone_given, cone_refused}
 use Rattle.pl_cone.proofs.calls.cone_of.Goals as goal
 
-pub stale_rows-requires-clause-places : goal.stale_rows-requires-clause-places
-stale_rows-requires-clause-places c = ap length c.as_slice.ensures ∙ (ap length c.in_ok-places.ensures ∙ length-map c.args.table.now.files.now (place_of c.args.slots.now))
+pub stale_rows-requires : goal.stale_rows-requires
+stale_rows-requires c = record {
+  table = c.requires;
+  places = ap length c.as_slice.ensures ∙ (ap length c.in_ok-places.ensures ∙ length-map c.args.table.now.files.now (place_of c.args.slots.now));
+}
 
 pub names_where-requires : goal.names_where-requires
 names_where-requires c = rw c.as_slice-3.ensures (stale_long c.args.table.now _ c.in_ok-flags.flags c.in_ok-flags.ensures)

@@ -9,6 +9,6 @@ use Rattle.pl_cone.proofs.linking.library_link.Given as goal
 
 abbrev pub invariant-loop-number : goal.invariant-loop-number
 invariant-loop-number l = record {
-  found : AllZip (λ r f. IsSought (objects l.own.scope) (reference 0 r) f) (take l.number l.relocs) l.all;
+  found : AllZip (λ r f. IsSought (objects l.own.scope) (reference 0 r) f) (take l.number l.relocs) l.found;
   remaining : HoldsBetween (GivesOneWordOf l.index (objects l.own.scope) l.relocs) l.number 0 l.remaining;
 }

@@ -10,8 +10,8 @@ returns-in_err-modules c =
     let p = err_from_is_err_and c.from_residual.result c.from_residual.ensures.1 in
     rw (p.1, p.2) (tls_refuses c.args.own.now.scope _ c.in_err-modules.ensures)
 
-pub linked_by-requires-clause-linking : goal.linked_by-requires-clause-linking
-linked_by-requires-clause-linking c = record {
+pub linked-requires-clause-linking : goal.linked-requires-clause-linking
+linked-requires-clause-linking c = record {
   is = record {
     one_each = ap length c.in_ok-places.ensures ∙ length-replicate {A = ℕ} (length c.args.own.now.scope) 0;
     index = c.requires.index c.among.result c.among.ensures.index c.among.ensures.positions;

@@ -11,14 +11,15 @@ use Rattle.pl_cone.proofs.needs.needs_of.Goals as goal
 
 pub returns-clause-needs : goal.returns-clause-needs
 returns-clause-needs c =
-    let names = c.all_needed.new.names.items in
-    let few = c.in_ok-needed.ensures.few in
+    let after = c.all_needed.new.self in
+    let names = after.names.items in
+    let few = c.in_ok-needed.ensures.goes_on.is.few in
     let long = length-map names (λ (x : Bor (List ℕ)). x.now) in
     record {
       few = omega (arith, few, long);
-      once = numbers_once c.all_needed.new.numbers (words names) c.in_ok-needed.ensures.numbers;
+      once = numbers_once after.numbers (words names) c.in_ok-needed.ensures.goes_on.is.numbers;
       files = λ row t at.
-          c.in_ok-needed.ensures.goes_on row t.name
+          c.in_ok-needed.ensures.goes_on.keep row t.name
           (ap (λ (ns : List (List ℕ)). slice_get ns row) c.in_ok-number_files.ensures.names ∙ slice_get-map (λ (x : Taken). x.name) c.args.files.now row ∙ ap (option_map (λ (x : Taken). x.name)) at);
       needed = c.in_ok-needed.ensures.told;
     }

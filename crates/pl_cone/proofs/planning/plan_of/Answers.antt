@@ -7,11 +7,11 @@ use Rattle.pl_cone.proofs.planning.plan_of.Goals as goal
 pub slots_of-requires : goal.slots_of-requires
 slots_of-requires c = (c.args.asked.now.region, c.requires)
 
-pub stale_rows-requires-clause-table : goal.stale_rows-requires-clause-table
-stale_rows-requires-clause-table c = (c.args.asked.now.region, c.requires)
-
-pub stale_rows-requires-clause-places : goal.stale_rows-requires-clause-places
-stale_rows-requires-clause-places c = rw c.as_slice.ensures (places_long c.args.table.now c.in_ok-placed.placed.slots c.in_ok-placed.placed.places c.in_ok-placed.ensures.2)
+pub stale_rows-requires : goal.stale_rows-requires
+stale_rows-requires c = record {
+  table = (c.args.asked.now.region, c.requires);
+  places = rw c.as_slice.ensures (places_long c.args.table.now c.in_ok-placed.placed.slots c.in_ok-placed.placed.places c.in_ok-placed.ensures.2);
+}
 
 pub stamps_of-requires : goal.stamps_of-requires
 stamps_of-requires c = rw c.as_slice-3.ensures (stale_long c.args.table.now _ c.in_ok-stale.stale c.in_ok-stale.ensures)

@@ -1,57 +1,78 @@
-use Rattle.std.proofs.Common.{◌≡◌, ◌<◌, ℕ, Bool, List, Result, sym, ap, subst, ◌∙◌}
-use Rattle.std.specs.Prelude.{if◌then◌else◌}
+use Rattle.std.proofs.Common.{◌≡◌, ◌<◌, ℕ, Bool, true, false, List, Result, Err, sym, ap, subst, ◌∙◌}
+use Rattle.std.specs.Prelude.{MatchBool, ⊤, if◌then◌else◌}
 use Rattle.std.specs.List.{All}
-use Rattle.std.proofs.lemmas.Result.{IfOk-weaker}
+use Rattle.std.proofs.lemmas.Result.{err_from_is_err_and}
 use Rattle.pl_base.specs.Answers.{Answers, because}
 use Rattle.pl_share.specs.Disjoint.{disjoint}
 use Rattle.pl_share.specs.Shared.{plan_shared}
 use Rattle.pl_slots.specs.Plan.{plan}
+use Rattle.pl_slots.specs.Plan as slots
+use Rattle.pl_slots.specs.declared.fault.PlanFault.{PlanFault}
+use Rattle.pl_slots.specs.declared.fault.PlanFault.TheVariants.{NoSlot, NoMemory}
 use Rattle.pl_slots.specs.declared.slot.Slot.{Slot}
 use Rattle.pl_slots.specs.declared.slot.Want.{Want}
 use Rattle.pl_cone.specs.Faulted.{is_memory, of_plan}
 use Rattle.pl_cone.specs.Slots.{HaveWantedNames, table_slots, table_walks, table_wants}
 use Rattle.pl_cone.specs.declared.planning.Asked.{Asked}
 use Rattle.pl_cone.specs.declared.fault.PlanningFault.{PlanningFault}
+use Rattle.pl_cone.specs.declared.table.RunTable.{RunTable}
+use Rattle.pl_cone.proofs.ServeLaws.{apart_names, shared_names}
 use Rattle.pl_cone.proofs.WantLaws.{wants_aligned, wants_spanned}
 use Rattle.pl_cone.proofs.slots.planned_slots.Goals as goal
-
-abbrev apart_by : Asked → List Want → Result (List Slot) PlanningFault
-apart_by a ws = because of_plan (plan (disjoint a.rows.now ws a.region) ws a.region)
-
-abbrev shared_by : Asked → List Want → List (List ℕ) → Result (List Slot) PlanningFault
-shared_by a ws rows = because of_plan (plan_shared a.rows.now ws rows a.region)
 
 abbrev chosen : Asked → List Want → List (List ℕ) → Bool → Result (List Slot) PlanningFault
 chosen a ws rows share = because of_plan (if share then plan_shared a.rows.now ws rows a.region else plan (disjoint a.rows.now ws a.region) ws a.region)
 
-pub apart_slots-requires : goal.apart_slots-requires
-apart_slots-requires c = rw (c.as_slice-wants.ensures, c.requires.wanting.wants) (wants_aligned c.requires.table.0 c.args.table.now c.requires.table.1)
+shared_is : (t : RunTable) (a : Asked) (ws : List Want) (rows : List (List ℕ)) → a.share ≡ true → ws ≡ table_wants t → rows ≡ table_walks t → because of_plan (plan_shared a.rows.now ws rows a.region) ≡ table_slots t a
+shared_is t a ws rows share wants walks = rw (wants, walks) (sym (ap (chosen a (table_wants t) (table_walks t)) share))
 
-pub shared_slots-requires : goal.shared_slots-requires
-shared_slots-requires c = rw (c.as_slice-wants.ensures, c.requires.wanting.wants) (wants_aligned c.requires.table.0 c.args.table.now c.requires.table.1)
+apart_is : (t : RunTable) (a : Asked) (ws : List Want) (kept : List Slot) → a.share ≡ false → ws ≡ table_wants t → kept ≡ disjoint a.rows.now ws a.region → because of_plan (plan kept ws a.region) ≡ table_slots t a
+apart_is t a ws kept share wants is = rw (is, wants) (sym (ap (chosen a (table_wants t) (table_walks t)) share))
 
-pub returns-then-not-asked-clause-value : goal.returns-then-not-asked-clause-value
-returns-then-not-asked-clause-value c =
+-- a plan that stops
+stops : (e : PlanFault) (meant : Result (List Slot) PlanFault) → MatchBool (slots.is_memory e) ⊤ (meant ≡ Err e) → MatchBool (is_memory (of_plan e)) ⊤ (because of_plan meant ≡ Err (of_plan e))
+stops (NoSlot name span hole) meant same = ap (because of_plan) same
+stops NoMemory meant same = tt
+
+pub plan_shared-requires : goal.plan_shared-requires
+plan_shared-requires c = rw (c.as_slice-wants.ensures, c.requires.wanting.wants) (wants_aligned c.requires.table.0 c.args.table.now c.requires.table.1)
+
+pub disjoint-requires : goal.disjoint-requires
+disjoint-requires c = rw (c.as_slice-wants.ensures, c.requires.wanting.wants) (wants_aligned c.requires.table.0 c.args.table.now c.requires.table.1)
+
+pub plan-requires : goal.plan-requires
+plan-requires c = rw (c.as_slice-wants.ensures, c.requires.wanting.wants) (wants_aligned c.requires.table.0 c.args.table.now c.requires.table.1)
+
+pub returns-in_err-plan_shared-clause-value : goal.returns-in_err-plan_shared-clause-value
+returns-in_err-plan_shared-clause-value c =
     let told : c.as_slice-wants.result.now ≡ table_wants c.args.table.now = c.as_slice-wants.ensures ∙ c.requires.wanting.wants in
-    let same : apart_by c.args.asked.now c.as_slice-wants.result.now ≡ table_slots c.args.table.now c.args.asked.now =
-    ap (apart_by c.args.asked.now) told ∙ sym (ap (chosen c.args.asked.now (table_wants c.args.table.now) (table_walks c.args.table.now)) c.if-not-asked.true) in
-    subst (λ (r : Result (List Slot) PlanningFault). Answers is_memory c.apart_slots.result r) same c.apart_slots.ensures.value
+    let p = err_from_is_err_and c.from_residual-in_err-plan_shared.result c.from_residual-in_err-plan_shared.ensures.1 in
+    rw (p.1, p.2, ← shared_is c.args.table.now c.args.asked.now c.as_slice-wants.result.now c.in_ok-walks.walks.rows c.if-asked.true told c.in_ok-walks.ensures) (stops _ _ c.in_err-plan_shared.ensures.exact)
 
-pub returns-then-not-asked-clause-names : goal.returns-then-not-asked-clause-names
-returns-then-not-asked-clause-names c =
+pub returns-then-asked-clause-value : goal.returns-then-asked-clause-value
+returns-then-asked-clause-value c =
     let told : c.as_slice-wants.result.now ≡ table_wants c.args.table.now = c.as_slice-wants.ensures ∙ c.requires.wanting.wants in
-    IfOk-weaker c.apart_slots.result _ _ (λ slots have. subst (λ (ws : List Want). HaveWantedNames ws slots) told (have (subst (λ (ws : List Want). All (λ w. 0 < w.span) ws) (sym told) (wants_spanned c.requires.table.0 c.args.table.now c.requires.table.1)))) c.apart_slots.ensures.names
+    sym (shared_is c.args.table.now c.args.asked.now c.as_slice-wants.result.now c.in_ok-walks.walks.rows c.if-asked.true told c.in_ok-walks.ensures) ∙ ap (because of_plan) c.in_ok-plan_shared.ensures.exact
 
-pub returns-clause-value : goal.returns-clause-value
-returns-clause-value c =
+pub returns-then-asked-clause-names : goal.returns-then-asked-clause-names
+returns-then-asked-clause-names c =
     let told : c.as_slice-wants.result.now ≡ table_wants c.args.table.now = c.as_slice-wants.ensures ∙ c.requires.wanting.wants in
-    let same : shared_by c.args.asked.now c.as_slice-wants.result.now c.in_ok-walks.walks.rows ≡ table_slots c.args.table.now c.args.asked.now =
-    ap (λ (ws : List Want). shared_by c.args.asked.now ws c.in_ok-walks.walks.rows) told
-    ∙ (ap (shared_by c.args.asked.now (table_wants c.args.table.now)) c.in_ok-walks.ensures
-    ∙ sym (ap (chosen c.args.asked.now (table_wants c.args.table.now) (table_walks c.args.table.now)) c.if-not-asked.false)) in
-    subst (λ (r : Result (List Slot) PlanningFault). Answers is_memory c.shared_slots.result r) same c.shared_slots.ensures.value
+    let spans : All (λ w. 0 < w.span) c.as_slice-wants.result.now = subst (λ (ws : List Want). All (λ w. 0 < w.span) ws) (sym told) (wants_spanned c.requires.table.0 c.args.table.now c.requires.table.1) in
+    subst (λ (ws : List Want). HaveWantedNames ws c.in_ok-plan_shared.field-0) told (shared_names c.args.asked.now.region c.as_slice-wants.result.now _ (c.in_ok-plan_shared.ensures.serve spans))
 
-pub returns-clause-names : goal.returns-clause-names
-returns-clause-names c =
+pub returns-in_err-plan-clause-value : goal.returns-in_err-plan-clause-value
+returns-in_err-plan-clause-value c =
     let told : c.as_slice-wants.result.now ≡ table_wants c.args.table.now = c.as_slice-wants.ensures ∙ c.requires.wanting.wants in
-    IfOk-weaker c.shared_slots.result _ _ (λ slots have. subst (λ (ws : List Want). HaveWantedNames ws slots) told (have (subst (λ (ws : List Want). All (λ w. 0 < w.span) ws) (sym told) (wants_spanned c.requires.table.0 c.args.table.now c.requires.table.1)))) c.shared_slots.ensures.names
+    let p = err_from_is_err_and c.from_residual-in_err-plan.result c.from_residual-in_err-plan.ensures.1 in
+    rw (p.1, p.2, ← apart_is c.args.table.now c.args.asked.now c.as_slice-wants.result.now c.as_slice.result.now c.if-asked.false told (c.as_slice.ensures ∙ c.in_ok-kept.ensures.exact)) (stops _ _ c.in_err-plan.ensures.exact)
+
+pub returns-else-asked-clause-value : goal.returns-else-asked-clause-value
+returns-else-asked-clause-value c =
+    let told : c.as_slice-wants.result.now ≡ table_wants c.args.table.now = c.as_slice-wants.ensures ∙ c.requires.wanting.wants in
+    sym (apart_is c.args.table.now c.args.asked.now c.as_slice-wants.result.now c.as_slice.result.now c.if-asked.false told (c.as_slice.ensures ∙ c.in_ok-kept.ensures.exact)) ∙ ap (because of_plan) c.in_ok-plan.ensures.exact
+
+pub returns-else-asked-clause-names : goal.returns-else-asked-clause-names
+returns-else-asked-clause-names c =
+    let told : c.as_slice-wants.result.now ≡ table_wants c.args.table.now = c.as_slice-wants.ensures ∙ c.requires.wanting.wants in
+    let spans : All (λ w. 0 < w.span) c.as_slice-wants.result.now = subst (λ (ws : List Want). All (λ w. 0 < w.span) ws) (sym told) (wants_spanned c.requires.table.0 c.args.table.now c.requires.table.1) in
+    subst (λ (ws : List Want). HaveWantedNames ws c.in_ok-plan.field-0) told (apart_names _ c.args.asked.now.region c.as_slice-wants.result.now _ (c.in_ok-plan.ensures.serve spans))

@@ -3,6 +3,9 @@ use Rattle.pl_slots.specs.declared.slot.Slot.{Slot}
 use Rattle.pl_cone.specs.Slots.{start_at}
 use Rattle.pl_cone.proofs.slots.slots_of.Goals as goal
 
+pub planned_slots-requires : goal.planned_slots-requires
+planned_slots-requires c = record { table = c.requires; wanting = c.in_ok-wanting.ensures }
+
 pub returns : goal.returns
 returns c = (
   c.in_ok-slots.ensures.value,
