@@ -1,5 +1,5 @@
 -- The words that the prelinked file of a library holds at the places of its remaining relocations, by its original and its own words.
-use Rattle.std.specs.Prelude.{◌≡◌, ◌<◌, ℕ, List, [], ◌∷◌, slice_index_or, Option, Some, None}
+use Rattle.std.specs.Prelude.{◌≡◌, ℕ, List, [], ◌∷◌, slice_index_or, Option, Some, None}
 use Rattle.std.specs.List.{AllZip}
 use Rattle.pl_conflict.specs.Held.{HoldsAt}
 use Rattle.pl_form.specs.Words.{word_at}
