@@ -177,7 +177,7 @@ pub record IsStaleColumn (n : Numbered) (stale : List Bool) : Type 0 where
 -- the files are numbered too
 pub record IsStaleRun (n : Numbered) (stale : List Bool) : Type 0 where
   pub numbered : IsNumbered n
-  pub stale : IsStaleColumn n stale
+  pub column : IsStaleColumn n stale
 
 -- ---- what is made of them
 

@@ -1,6 +1,6 @@
 // What the relocations of files give, once the slots are known.
 ghost use Rattle.std.specs.Prelude.{◌≡◌, ◌<◌, [], ◌∷◌, true, IfOk, length};
-ghost use Rattle.std.specs.List.{All, AllZip};
+ghost use Rattle.std.specs.List.{All};
 ghost use Rattle.pl_image.specs.Image.{AreLoaded};
 ghost use Rattle.pl_cone.specs.Table.{AreBelow};
 ghost use Rattle.pl_rewrite.specs.Flags as flags_by;
@@ -105,7 +105,7 @@ fn held_words(
     requires one { 0 < length original.now }
     requires words { length words.now ≡ length relocs.now }
     requires remaining { All (λ i. i < length relocs.now) remaining.now }
-    ensures { IfOk result (AllZip (held_by.IsHeldIn original.now relocs.now words.now) remaining.now) }
+    ensures { IfOk result (held_by.AreHeldIn original.now relocs.now words.now remaining.now) }
 {
     let mut all = Rows::new(alloc);
     for index in remaining {

@@ -5,10 +5,10 @@ use Rattle.pl_rewrite.proofs.ProgramRowLaws.{have_words, links_needed, program_r
 use Rattle.pl_rewrite.proofs.outcomes.made_of.Goals as goal
 
 pub held_by_programs-requires-clause-one_each : goal.held_by_programs-requires-clause-one_each
-held_by_programs-requires-clause-one_each c = c.requires.run.stale.count
+held_by_programs-requires-clause-one_each c = c.requires.run.column.count
 
 pub words_of_rows-requires-clause-needed : goal.words_of_rows-requires-clause-needed
-words_of_rows-requires-clause-needed c = record { made = c.requires.run.stale.count; held = ap length c.as_slice.ensures.value ∙ c.in_ok-held.ensures.count }
+words_of_rows-requires-clause-needed c = record { made = c.requires.run.column.count; held = ap length c.as_slice.ensures.value ∙ c.in_ok-held.ensures.count }
 
 pub words_of_rows-requires-clause-links : goal.words_of_rows-requires-clause-links
 words_of_rows-requires-clause-links c =
@@ -22,8 +22,8 @@ program_outcomes-requires c =
     let told = told_rows n _ c.args.stale.now c.as_slice-2.result.now (subst (AreRowWords n _) (sym c.as_slice-2.ensures.value) c.in_ok-row_words.ensures) refl held in
     record {
       work = record { numbered = c.requires.run.numbered; asked = told.asked; row_words = told.told };
-      count = c.requires.run.stale.count;
-      rows = program_rows _ told.asked c.args.stale.now c.requires.run.numbered told.made told.held c.requires.run.stale told.told;
+      count = c.requires.run.column.count;
+      rows = program_rows _ told.asked c.args.stale.now c.requires.run.numbered told.made told.held c.requires.run.column told.told;
     }
 
 pub with_libraries-requires-clause-row_words : goal.with_libraries-requires-clause-row_words
@@ -31,4 +31,4 @@ with_libraries-requires-clause-row_words c =
     let n = c.args.numbered.now in
     let held = subst (AreHeldFlags n c.args.stale.now) (sym c.as_slice.ensures.value) c.in_ok-held.ensures in
     let told = told_rows n _ c.args.stale.now c.in_ok-row_words.row_words.items c.in_ok-row_words.ensures refl held in
-    have_words n told.asked c.args.stale.now c.in_ok-row_words.row_words.items told.made c.requires.run.stale told.told
+    have_words n told.asked c.args.stale.now c.in_ok-row_words.row_words.items told.made c.requires.run.column told.told

@@ -28,7 +28,7 @@ made_of-requires-clause-run c =
     let plan = plan_again t c.as_slice.result.now a p c.requires.plan in
     record {
       numbered = numbered_is _ t.links t.causes a again p plan c.as_slice-2.ensures c.as_slice-3.ensures (subst (AreDigests t.files.now) (sym c.as_slice-4.ensures.value) c.in_ok-digests.ensures);
-      stale = column _ t.links t.causes a p c.as_slice-stale.result.now again plan c.as_slice-stale.ensures;
+      column = column _ t.links t.causes a p c.as_slice-stale.result.now again plan c.as_slice-stale.ensures;
     }
 
 pub made_of-requires-clause-links : goal.made_of-requires-clause-links

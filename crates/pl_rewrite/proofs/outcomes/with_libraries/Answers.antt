@@ -42,7 +42,7 @@ loop-one-preserved c =
     let i = length c.loop-one.yielded in
     let counted : c.len.result ≡ length c.loop-one.all.items = omega (arith, c.len.ensures, c.loop-one.all.ok.0) in
     let row : i ≡ c.len.result = omega (arith, counted, c.loop-one.invariant.0) in
-    let lt : i < length ps = omega (arith, turn.0, c.requires.row_words.count, c.requires.programs.count, c.requires.run.stale.count) in
+    let lt : i < length ps = omega (arith, turn.0, c.requires.row_words.count, c.requires.programs.count, c.requires.run.column.count) in
     let n = next_turn ps i c.next-in-loop-one.result (into_iter_items c.loop-one.programs) (into_iter_items c.next-in-loop-one.new.self) (into_iter_len c.loop-one.programs) (into_iter_len c.next-in-loop-one.new.self) lt c.loop-one.invariant.2 c.loop-one.invariant.3 c.next-in-loop-one.ensures.cases in
     let at : slice_get ps c.len.result ≡ Some n.item = subst (λ (k : ℕ). slice_get ps k ≡ Some n.item) row n.at in
     let long = ap length c.in_ok-push.ensures.items in
@@ -59,4 +59,4 @@ returns c =
     let given = c.into_iter-one-iterator.ensures.into_iter_gives in
     let all = c.args.row_words in
     let end = YieldsList-end (YieldsList-from_vec {s = c.into_iter-one-iterator.result} all.items given.0 (given.1 ∙ all.ok.0)) c.loop-one.yielded c.loop-one.one-iterator c.loop-one.yielded_by c.next.result c.next.new.self c.in-None.is c.next.ensures.steps in
-    record { count = omega (arith, c.loop-one.invariant.0, end.1, c.requires.row_words.count, c.requires.run.stale.count); each = c.loop-one.invariant.1 }
+    record { count = omega (arith, c.loop-one.invariant.0, end.1, c.requires.row_words.count, c.requires.run.column.count); each = c.loop-one.invariant.1 }
