@@ -39,6 +39,7 @@ pub use named::{
 };
 pub use names::read_needed;
 pub use object::Object;
+pub use overlaps::any_share;
 pub use place_clauses::{is_in_segment, last_load};
 pub use ranges::ranges_of;
 pub use refusal::Refusal;

@@ -1,5 +1,5 @@
 -- The rows of names that may be prelinked: their walks, and the members that these are.
-use Rattle.std.proofs.Common.{◌≡◌, ℕ, zero, suc, ◌+◌, ◌<◌, ◌≤◌, true, List, [], ◌∷◌, length, map, Option, Some, Result, Ok, Err, refl, sym, ap, subst, ◌∙◌, arith}
+use Rattle.std.proofs.Common.{◌≡◌, ℕ, zero, suc, true, List, [], ◌∷◌, length, map, Option, Some, Result, Ok, Err, refl, sym, ap, subst, ◌∙◌, arith}
 use Rattle.std.specs.Prelude.{slice_get}
 use Rattle.std.specs.List.{AllZip, IsDistinct}
 use Rattle.std.specs.Option.{option_map}
@@ -33,7 +33,7 @@ use Rattle.pl_object.specs.declared.object.Object.{Object}
 use Rattle.pl_scope.specs.Members.{names}
 use Rattle.pl_scope.proofs.WalkedLaws.{limit_is, walk_distinct}
 use Rattle.law_sound.specs.Rule as sound
-use Rattle.pl_rewrite.specs.Rows.{IsFirmAt, IsNumbered, IsWalkRow, firm_by, firms_of, walk_of}
+use Rattle.pl_rewrite.specs.Rows.{AreDigests, IsFirmAt, IsNumbered, IsWalkRow, firm_by, firms_of, walk_of}
 use Rattle.pl_rewrite.specs.RowWords.{IsLinkAt}
 use Rattle.pl_rewrite.specs.Sources.{AreSources, member_names}
 use Rattle.pl_rewrite.specs.declared.numbers.Numbered.{Numbered}
@@ -146,11 +146,12 @@ module _ (n : Numbered) (links : List Link) (causes : List (Option Skip)) (a : A
 
   -- ---- numbers
 
-  pub numbered_is : (p : RowPlan) → IsPlan t a p → n.places.now ≡ p.places → n.stamps.now ≡ p.stamps → IsNumbered n
-  numbered_is p plan places stamps = record {
+  pub numbered_is : (p : RowPlan) → IsPlan t a p → n.places.now ≡ p.places → n.stamps.now ≡ p.stamps → AreDigests n.files.now n.digests.now → IsNumbered n
+  numbered_is p plan places stamps digests = record {
     taken = (a.region, is.taken);
     walks = is.walks;
     index = is.index;
     places = ap length places ∙ (ap length plan.places ∙ length-map n.files.now (λ (x : Taken). plans.slot_of p.slots x.name));
     stamps = ap length stamps ∙ (ap length plan.stamps ∙ length-map n.files.now (λ (x : Taken). plans.next_stamp (files_in n.files.now) a.region p.slots p.stamp x.name));
+    digests = digests;
   }

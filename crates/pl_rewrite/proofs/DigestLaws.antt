@@ -18,8 +18,8 @@ use Rattle.pl_form.specs.Words.{checksum_of}
 use Rattle.pl_form.specs.declared.file.Marked.{Marked}
 use Rattle.pl_form.proofs.FilesLaws.{nothing_else_is_read}
 use Rattle.pl_lists.specs.declared.list_row.ListRow.{ListRow}
-use Rattle.pl_rewrite.specs.Digests.{AreDigests, AreFilesRead, IsChecksumAt, IsDigestAt, IsDigestOf, IsListAt, IsListRowAt}
-use Rattle.pl_rewrite.specs.Rows.{IsFirmAt, IsNumbered, firms_of, number_at, walk_of}
+use Rattle.pl_rewrite.specs.Digests.{IsChecksumAt, IsDigestAt, IsListAt, IsListRowAt}
+use Rattle.pl_rewrite.specs.Rows.{AreDigests, AreFilesRead, IsDigestOf, IsFirmAt, IsNumbered, firms_of, number_at, walk_of}
 use Rattle.pl_rewrite.specs.declared.numbers.Numbered.{Numbered}
 use Rattle.pl_rewrite.proofs.FirmRowLaws.{row_of}
 use Rattle.sha2.proofs.Facts256.{length-sha256}

@@ -4,8 +4,8 @@ use Rattle.std.specs.Prelude.{◌||◌, ◌==◌, slice_get}
 use Rattle.std.specs.List.{list_any}
 use Rattle.std.proofs.lemmas.Bool.{cases_Bool, eqb-false, eqb-true}
 use Rattle.std.proofs.lemmas.List.{get_or-replicate, get_or-set_other, get_or-set_same, length-replicate, length-set, take_all, take_more}
-use Rattle.std.proofs.lemmas.Option.{get_or_from_slice_get, same_Some, slice_get-get_or, slice_get_within}
-use Rattle.pl_rewrite.specs.Flags.{AreFlagsOf, FlagsAll, flagged}
+use Rattle.std.proofs.lemmas.Option.{get_or_from_slice_get, slice_get-get_or, slice_get_within}
+use Rattle.pl_rewrite.specs.Flags.{FlagsAll, flagged}
 
 pub or_none : (b : Bool) → (b || false) ≡ b
 or_none true = refl
@@ -74,21 +74,17 @@ none_set size row b at =
     let within : row < length (replicate size false) = slice_get_within (replicate size false) row b at in
     sym (get_or_from_slice_get (replicate size false) row b b at) ∙ get_or-replicate size row false b (omega (arith, within, length-replicate size false))
 
-none_at : (size row : ℕ) → row < size → slice_get (replicate size false) row ≡ Some false
-none_at size row lt =
-    let within : row < length (replicate size false) = omega (arith, lt, length-replicate size false) in
-    slice_get-get_or (replicate size false) row false within ∙ ap (λ (x : Bool). Some x) (get_or-replicate size row false false lt)
-
-pub flags_made : (size : ℕ) (rows : List ℕ) (before flags : List Bool) → before ≡ replicate size false → FlagsAll rows before flags → AreFlagsOf size rows flags
-flags_made size rows before flags none are =
-    let long : length flags ≡ size = are.count ∙ ap length none ∙ length-replicate size false in
-    record {
-      count = long;
-      each = λ row b at.
-          let within : row < length flags = slice_get_within flags row b at in
-          let was : slice_get before row ≡ Some false = ap (λ (xs : List Bool). slice_get xs row) none ∙ none_at size row (omega (arith, within, long)) in
-          same_Some b (flagged rows row) (sym at ∙ are.each row false was);
-    }
-
 pub flags_count : (size : ℕ) (flags : List Bool) → flags ≡ replicate size false → length flags ≡ size
 flags_count size flags none = ap length none ∙ length-replicate size false
+
+-- the flag of one row
+pub flag_is : (row k : ℕ) → (row == k) ≡ flagged (row ∷ []) k
+unfolding flagged
+flag_is row k = sym (or_none (row == k))
+
+abbrev pub IsFlagOf : ℕ → ℕ → Bool → Type 0
+IsFlagOf row k b = b ≡ flagged (row ∷ []) k
+
+-- those of the first rows
+abbrev pub FlagsTo : ℕ → List Bool → Type 0
+FlagsTo row flags = (k : ℕ) (b : Bool) → slice_get flags k ≡ Some b → IsFlagOf row k b

@@ -1,5 +1,5 @@
 -- The conflict rows and the fills that are made of a program are those of its file.
-use Rattle.std.proofs.Common.{◌≡◌, ℕ, ◌+◌, ◌-◌, ◌^◌, ◌<◌, true, false, List, [], ◌∷◌, length, map, Option, Some, None, Ok, Err, sym, ap, subst, ◌∙◌, arith}
+use Rattle.std.proofs.Common.{◌≡◌, ℕ, ◌-◌, ◌<◌, true, false, List, ◌∷◌, length, map, Option, Some, None, Ok, Err, sym, ap, subst, ◌∙◌, arith}
 use Rattle.std.specs.Prelude.{slice_get}
 use Rattle.std.specs.List.{All, AllZip}
 use Rattle.std.proofs.lemmas.List.{length-map}
@@ -130,6 +130,7 @@ module _ (w : Work) (row : ℕ) (l : WalkLinking) (work : IsWork w) (program : I
   pub fillable_is : (m : Numbered) (walk : List ℕ) → m ≡ n → walk ≡ walk_of n row → IsFillable m walk
   fillable_is m walk same is =
       let here : IsFillable n (walk_of n row) = record {
+        numbered = work.numbered;
         some = omega (arith, ap length program.walk.is);
         within = program.walk.rows.within;
         placed = placed_rows n row program.walk whole_set;

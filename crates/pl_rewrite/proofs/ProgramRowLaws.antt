@@ -1,6 +1,6 @@
 -- What is told of the rows of stale files is enough for the files that are made of them.
-use Rattle.std.proofs.Common.{◌≡◌, ℕ, zero, suc, ◌+◌, ◌-◌, ◌<◌, ◌≤◌, Bool, true, false, List, [], ◌∷◌, length, map, Some, refl, sym, ap, subst, ◌∙◌, arith, inl, inr}
-use Rattle.std.specs.Prelude.{◌&&◌, ◌||◌, ◌==◌, not, slice_get, if◌then◌else◌}
+use Rattle.std.proofs.Common.{◌≡◌, ℕ, zero, suc, ◌-◌, ◌<◌, ◌≤◌, Bool, true, false, List, [], ◌∷◌, length, map, Some, refl, sym, ap, subst, ◌∙◌, arith, inl, inr}
+use Rattle.std.specs.Prelude.{◌||◌, ◌==◌, not, slice_get}
 use Rattle.std.specs.List.{AllZip, list_any}
 use Rattle.std.proofs.lemmas.Bool.{and_parts, cases_lt, eq-eqb, false≢true, or_left, or_right}
 use Rattle.std.proofs.lemmas.Option.{none-some, same_Some, slice_get_within}
@@ -194,8 +194,8 @@ have_words n asked stale all made column told = record {
       (told.each row s at).by.words library (ap (λ (flags : List Bool). is_asked flags row) made ∙ parts.0);
 }
 
-pub stale_library_row : (n : Numbered) (stale : List Bool) (row : ℕ) → row < length n.files.now → IsStaleColumn n stale → is_stale_library n stale row ≡ true → IsLibraryRow n row
-stale_library_row n stale row lt column on =
+pub stale_library_row : (n : Numbered) (stale : List Bool) (row : ℕ) → IsNumbered n → row < length n.files.now → IsStaleColumn n stale → is_stale_library n stale row ≡ true → IsLibraryRow n row
+stale_library_row n stale row numbered lt column on =
     let parts = and_parts (is_stale stale row) (is_library_at n row) on in
     let walk : IsWalkRow n row = column.walks row parts.0 in
-    record { within = lt; walk = walk; library = walk_library n row walk ∙ parts.1 }
+    record { numbered = numbered; within = lt; walk = walk; library = walk_library n row walk ∙ parts.1 }

@@ -1,6 +1,6 @@
 -- The outcome of each row is what a run makes of its file.
-use Rattle.std.proofs.Common.{◌≡◌, ℕ, ◌<◌, Bool, true, false, List, [], ◌∷◌, length, Option, Some, None, Ok, sym, ap, subst, ◌∙◌, arith, inl, inr}
-use Rattle.std.specs.Prelude.{◌&&◌, slice_get, if◌then◌else◌}
+use Rattle.std.proofs.Common.{◌≡◌, ℕ, ◌<◌, Bool, true, false, List, length, Option, Some, None, Ok, sym, ap, subst, ◌∙◌, arith, inl, inr}
+use Rattle.std.specs.Prelude.{slice_get, if◌then◌else◌}
 use Rattle.std.specs.List.{AllZip}
 use Rattle.std.specs.Option.{option_map}
 use Rattle.std.proofs.lemmas.Bool.{cases_Bool}
@@ -36,7 +36,7 @@ use Rattle.pl_rewrite.specs.Changes as changes
 use Rattle.pl_rewrite.specs.Changes.{put}
 use Rattle.pl_rewrite.specs.Contents.{conflicts_in}
 use Rattle.pl_rewrite.specs.Libraries.{IsNew, storable_library}
-use Rattle.pl_rewrite.specs.Outcomes.{IsMadeAt, IsOutcome, KeepsFile, MayBe, kept_by, made_by, made_in, made_original, made_program, made_with, too_large}
+use Rattle.pl_rewrite.specs.Outcomes.{IsMadeAt, IsOutcome, KeepsFile, MayBe, kept_by, made_by, renewed, made_in, made_original, made_with, too_large}
 use Rattle.pl_rewrite.specs.Outcomes as spec
 use Rattle.pl_rewrite.specs.Reports as reports
 use Rattle.pl_rewrite.specs.Rows.{IsFirmAt, IsWalkRow, firm_by, firms_of, is_library_row, number_at, of_firm}
@@ -123,7 +123,7 @@ module _ (n : Numbered) (links : List Link) (causes : List (Option Skip)) (a : A
       ap (λ (s : RowState). make (put (Some x.bytes) x.name (Some file)) s true) told ∙ sym (new_is files a.region run x.name x.bytes (known row x at).file file (named_stale row x at on) new)
 
   program_made : (row : ℕ) (x : Taken) (made : NewProgram) → slice_get n.files.now row ≡ Some x → spec.is_stale stale row ≡ true → is_library_row n row ≡ false → made.conflicts ≡ conflicts_in made.file.items → Some made.file.items ≡ changes.prelinked files a.region run x.name
-      → made_program x made ≡ meant x
+      → renewed x made.file.items (states.Program false made.conflicts) ≡ meant x
   program_made row x made at on other rows new =
       let walk : IsWalkRow n row = walk_row n links causes a is row (candidate row on) in
       let first : IsFirst n row = first_is n row walk in

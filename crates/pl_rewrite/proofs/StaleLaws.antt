@@ -1,19 +1,15 @@
 -- Which files are made anew, and what the walks of stale programs hold.
-use Rattle.std.proofs.Common.{◌≡◌, ℕ, suc, ◌+◌, ◌<◌, Bool, true, false, List, [], ◌∷◌, length, replicate, Some, refl, sym, ap, subst, ◌∙◌, arith, inl, inr}
+use Rattle.std.proofs.Common.{◌≡◌, ℕ, suc, ◌<◌, Bool, true, false, List, [], length, replicate, Some, refl, sym, ap, subst, ◌∙◌, arith}
 use Rattle.std.specs.Prelude.{◌&&◌, ◌||◌, not, slice_get, if◌then◌else◌}
-use Rattle.std.proofs.lemmas.Bool.{cases_Bool}
-use Rattle.std.proofs.lemmas.List.Elements.{All-nil}
 use Rattle.std.proofs.lemmas.Option.{same_Some, slice_get_within}
 use Rattle.pl_cone.specs.Taken.{is_library_entry}
-use Rattle.pl_cone.specs.Table.{AreBelow}
 use Rattle.pl_cone.specs.declared.taken.Taken.{Taken}
 use Rattle.pl_cone.proofs.NeedLaws.{slice_get_at}
 use Rattle.pl_rewrite.specs.Flags.{FlagsAll, flagged}
 use Rattle.pl_rewrite.specs.Outcomes.{AreHeldBefore, AreHeldFlags, held_by, is_held_before, is_library_at, is_library_taken, is_stale, is_stale_library, is_stale_program}
-use Rattle.pl_rewrite.specs.Rows.{IsNumbered, walk_of}
+use Rattle.pl_rewrite.specs.Rows.{walk_of}
 use Rattle.pl_rewrite.specs.declared.numbers.Numbered.{Numbered}
 use Rattle.pl_rewrite.proofs.FlagLaws.{flags_count, none_set}
-use Rattle.pl_rewrite.proofs.NumberedLaws.{walk_rows}
 
 -- ---- a row
 
@@ -39,12 +35,6 @@ held_none n stale row is = sym (ap (λ (b : Bool). if b then walk_of n row else 
 
 pub held_walk : (n : Numbered) (stale : List Bool) (row : ℕ) → is_stale_program n stale row ≡ true → walk_of n row ≡ held_by n stale row
 held_walk n stale row is = sym (ap (λ (b : Bool). if b then walk_of n row else []) is)
-
-pub held_below : (n : Numbered) (stale : List Bool) (row : ℕ) → IsNumbered n → AreBelow (length n.files.now) (held_by n stale row)
-held_below n stale row numbered = elim (cases_Bool (is_stale_program n stale row)) [
-  | inl program ↦ subst (AreBelow (length n.files.now)) (held_walk n stale row program) (walk_rows n row numbered).within
-  | inr other ↦ subst (AreBelow (length n.files.now)) (held_none n stale row other) (All-nil (λ (r : ℕ). r < length n.files.now))
-]
 
 -- ---- one row after the other
 

@@ -1,5 +1,5 @@
 -- What verifying makes of a row is the file that is meant of it.
-use Rattle.std.proofs.Common.{◌≡◌, ℕ, ◌<◌, ◌≤◌, Bool, true, false, List, [], ◌∷◌, length, map, Option, Some, None, refl, sym, ap, subst, ◌∙◌, arith}
+use Rattle.std.proofs.Common.{◌≡◌, ℕ, Bool, true, false, List, [], ◌∷◌, map, Option, Some, None, refl, sym, ap, subst, ◌∙◌, arith}
 use Rattle.std.specs.Prelude.{is_some, slice_get, if◌then◌else◌}
 use Rattle.std.proofs.lemmas.Bool.{false≢true}
 use Rattle.std.proofs.lemmas.Option.{none-some}
@@ -22,21 +22,18 @@ use Rattle.pl_elf.specs.declared.kind.Kind.{Kind}
 use Rattle.pl_elf.specs.declared.kind.Kind.TheVariants.{Library, Program, Static}
 use Rattle.pl_elf.specs.declared.range.Range.{Range}
 use Rattle.pl_form.specs.declared.file.Marked.{Marked}
-use Rattle.pl_form.specs.declared.version.Version.{Version}
 use Rattle.pl_scope.specs.Scope.{objects}
 use Rattle.pl_scope.specs.Walk.{Walked}
 use Rattle.pl_scope.specs.declared.index.Entry.{Entry}
 use Rattle.law_sound.specs.Rule as sound
-use Rattle.pl_rewrite.specs.Rows.{IsNumbered, IsWalkRow, is_library_row, of_firm, walk_of}
+use Rattle.pl_rewrite.specs.Rows.{IsWalkRow, is_library_row, of_firm, walk_of}
 use Rattle.pl_rewrite.specs.RowWords.{IsLinkAt}
 use Rattle.pl_rewrite.specs.Sources.{AreSources}
-use Rattle.pl_cone.specs.Currency.{old_stamp}
-use Rattle.pl_rewrite.specs.Verify.{IsMeantOrNone, are_marked, is_same, is_verified, prelinked_in, slot_borne, verified_original}
+use Rattle.pl_rewrite.specs.Verify.{is_same, is_verified, prelinked_in, verified_original}
 use Rattle.pl_rewrite.specs.declared.numbers.Numbered.{Numbered}
 use Rattle.pl_rewrite.proofs.FirmLaws.{own_all}
 use Rattle.pl_rewrite.proofs.FirmRowLaws.{firms_named, named_of}
 use Rattle.pl_rewrite.proofs.NewLibraryLaws.{IsFirst, first_is}
-use Rattle.pl_rewrite.proofs.VerifyFileLaws.{borne_meant, marked_walk, refused_none}
 use Rattle.pl_rewrite.proofs.VerifyLaws.{compared, not_marked, original_none, original_read, original_some}
 
 entry_of : (region : Range) (ts : List Taken) (x : Taken) → IsRow region ts x → x.entry ≡ entry_in x.bytes
@@ -78,18 +75,6 @@ program_link_at n row own l made walk other same by found none =
       walk = walk;
       by = as_program (candidates.kind_of (walked_by n.files.now (walk_of n row))) n.files.now n.index.now (walk_of n row) made (ap is_library (kind_first n row walk) ∙ (sym (kind_row n row walk) ∙ other)) (ap is_static (kind_first n row walk) ∙ has.firm.dynamic) all none;
     }
-
--- ---- the file of a row, by what its walk is
-
-pub meant_in : (n : Numbered) (region : Range) (taken : AreTaken region n.files.now) (places : n.places.now ≡ map slot_borne n.files.now) (stamps : n.stamps.now ≡ map old_stamp n.files.now) (row : ℕ) (x : Taken) (m : Marked) (version : Version) (file : Option (List ℕ)) → IsNumbered n
-    → are_marked n.files.now (walk_of n row) ≡ true → slice_get n.files.now row ≡ Some x → marked_by x.entry ≡ Some m → m.version ≡ version → IsMeantOrNone n row version file → file ≡ prelinked_in (files_in n.files.now) x.name
-meant_in n region taken places stamps row x m version file numbered all at mark same meant = by_walk (walk_of n row) refl
-  where
-    by_walk : (ks : List ℕ) → walk_of n row ≡ ks → file ≡ prelinked_in (files_in n.files.now) x.name
-    by_walk [] is = meant.none is ∙ refused_none n row x numbered at is
-    by_walk (k ∷ ks) is =
-        let walk : IsWalkRow n row = marked_walk n row numbered all (subst (λ (rs : List ℕ). 1 ≤ length rs) (sym is) (omega arith)) in
-        borne_meant n region taken places stamps row x m version file numbered walk all at mark same (meant.meant walk)
 
 -- ---- whether it is the one that is there
 

@@ -1,5 +1,5 @@
 -- What the files of programs are made of.
-use Rattle.std.specs.Prelude.{◌≡◌, ◌<◌, ℕ, false, List, [], ◌∷◌, length, slice_get, Option, Some, None, Result, Ok, Err}
+use Rattle.std.specs.Prelude.{◌≡◌, ◌<◌, ℕ, true, false, List, length, slice_get, Option, Some, None, Result, Ok, Err}
 use Rattle.std.specs.Option.{option_map}
 use Rattle.pl_cone.specs.Links.{IsLinking}
 use Rattle.pl_cone.specs.Table.{walked_by}
@@ -24,7 +24,6 @@ use Rattle.pl_value.specs.Meanings.{meanings}
 use Rattle.pl_value.specs.declared.fault.OrdinaryFault.{OrdinaryFault}
 use Rattle.pl_value.specs.declared.meaning.Meaning.{Meaning}
 use Rattle.pl_rewrite.specs.Rows.{IsFileMeant, IsNumbered, IsWalkRow, firms_of, is_library_row, places_of, walk_of}
-use Rattle.pl_rewrite.specs.Digests.{AreDigests}
 use Rattle.pl_rewrite.specs.RemainingRows.{RefusesAll}
 use Rattle.pl_rewrite.specs.Sources.{AreVersionsOf, BeginsIn}
 use Rattle.pl_rewrite.specs.RowWords.{AreHeldAt, AreRowWords, FindsRow, IsLinkAt}
@@ -34,7 +33,6 @@ pub record IsWork (w : Work) : Type 0 where
   pub numbered : IsNumbered w.numbered.now
   pub asked : Needed
   pub row_words : AreRowWords w.numbered.now asked w.row_words.now
-  pub digests : AreDigests w.numbered.now.files.now w.digests.now
 
 -- the words that the file of the library of a row holds at the places of its remaining relocations are told
 pub record IsHeldRow (n : Numbered) (row : ℕ) (s : RowWords) : Type 0 where
@@ -48,6 +46,12 @@ pub record IsProgramRow (w : Work) (row : ℕ) : Type 0 where
   pub program : is_library_row w.numbered.now row ≡ false
   pub found : (s : RowWords) → slice_get w.row_words.now row ≡ Some s → FindsRow w.numbered.now row s.found
   pub held : (m r : ℕ) (s : RowWords) → 0 < m → slice_get (walk_of w.numbered.now row) m ≡ Some r → slice_get w.row_words.now r ≡ Some s → IsHeldRow w.numbered.now r s
+
+-- such a program, the members of whose walk can be prelinked together
+pub record IsSetProgram (w : Work) (row : ℕ) : Type 0 where
+  pub work : IsWork w
+  pub program : IsProgramRow w row
+  pub set : firm.are_set (firms_of w.numbered.now row) ≡ true
 
 -- the linking of a row's walk at its places
 pub record IsLinkingOfRow (w : Work) (row : ℕ) (l : WalkLinking) : Type 0 where

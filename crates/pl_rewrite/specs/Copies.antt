@@ -10,7 +10,7 @@ use Rattle.pl_image.specs.Image.{AreLoaded}
 use Rattle.pl_image.specs.Loads.{IsPlaced, loaded_at}
 use Rattle.pl_image.specs.declared.loaded_object.LoadedObject.{LoadedObject}
 use Rattle.pl_object.specs.declared.reloc.Reloc.{Reloc}
-use Rattle.pl_rewrite.specs.Rows.{IsFirmAt}
+use Rattle.pl_rewrite.specs.Rows.{IsFirmAt, IsNumbered}
 use Rattle.pl_rewrite.specs.declared.copies.Filling.{Filling}
 use Rattle.pl_rewrite.specs.declared.numbers.Numbered.{Numbered}
 use Rattle.pl_value.specs.Linked.{words}
@@ -65,8 +65,9 @@ IsFillOf walk Nothing = Unit {0}
 abbrev pub AreFillsOf : List ℕ → List Meaning → Type 0
 AreFillsOf walk gs = All (λ g. IsFillOf walk g.word) gs
 
--- the rows of a walk: there is one, each is that of a file, and each member is placed within the limit of addresses
+-- the rows of a walk of numbered files: there is one, each is that of a file, and each member is placed within the limit of addresses
 pub record IsFillable (n : Numbered) (walk : List ℕ) : Type 0 where
+  pub numbered : IsNumbered n
   pub some : 0 < length walk
   pub within : All (λ row. row < length n.files.now) walk
   pub placed : All (IsPlacedRow n) walk

@@ -1,7 +1,6 @@
 -- The SHA-256 of originals, and what lists have of them.
-use Rattle.std.specs.Prelude.{◌≡◌, ℕ, List, slice_get, Option, Some, IfSome}
-use Rattle.std.specs.List.{All, AllZip}
-use Rattle.pl_cone.specs.Taken.{HasItsEntry}
+use Rattle.std.specs.Prelude.{◌≡◌, ℕ, List, slice_get, Some}
+use Rattle.std.specs.List.{AllZip}
 use Rattle.pl_cone.specs.declared.taken.Taken.{Taken}
 use Rattle.pl_conflict.specs.Prelinked as firm
 use Rattle.pl_conflict.specs.Prelinked.{Firm}
@@ -11,20 +10,6 @@ use Rattle.pl_form.specs.Words.{checksum_of}
 use Rattle.pl_rewrite.specs.declared.numbers.Numbered.{Numbered}
 use Rattle.sha2.specs.Sha256.{sha256}
 use Rattle.pl_rewrite.specs.Rows.{IsFirmAt}
-
-abbrev pub AreFilesRead : List Taken → Type 0
-AreFilesRead ts = All HasItsEntry ts
-
-abbrev pub IsDigestOf : Taken → Option (List ℕ) → Type 0
-IsDigestOf t digest = IfSome digest (λ d. d ≡ sha256 (original_in t.bytes))
-
--- one for each, of those that are asked for
-abbrev pub AreDigests : List Taken → List (Option (List ℕ)) → Type 0
-AreDigests ts digests = AllZip IsDigestOf ts digests
-
--- one for each file of numbered rows
-abbrev pub HaveDigests : Numbered → List (Option (List ℕ)) → Type 0
-HaveDigests n digests = AreDigests n.files.now digests
 
 abbrev pub IsDigestAt : List Taken → ℕ → List ℕ → Type 0
 IsDigestAt ts row digest = (t : Taken) → slice_get ts row ≡ Some t → digest ≡ sha256 (original_in t.bytes)

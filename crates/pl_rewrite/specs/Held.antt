@@ -1,5 +1,5 @@
 -- The words that the prelinked file of a library holds at the places of its remaining relocations, by its original and its own words.
-use Rattle.std.specs.Prelude.{◌≡◌, ◌<◌, ℕ, List, [], ◌∷◌, slice_index_or, Option, Some, None}
+use Rattle.std.specs.Prelude.{◌≡◌, ℕ, List, [], ◌∷◌, slice_index_or, Option, Some, None}
 use Rattle.std.specs.List.{AllZip}
 use Rattle.pl_conflict.specs.Held.{HoldsAt}
 use Rattle.pl_form.specs.Words.{word_at}
@@ -18,6 +18,10 @@ IsWordIn original r None word = HoldsAt original 0 r word
 abbrev pub IsHeldIn : List LoadedObject → List Reloc → List (Option ℕ) → ℕ → HeldWord → Type 0
 IsHeldIn original rs words index h = (h.index ≡ index) × ((d : Reloc) → IsWordIn original (slice_index_or rs index d) (word_at words index) h.word)
 
--- of each of these relocations of a library, in their order
+-- of each of these relocations, in their order
+abbrev pub AreHeldIn : List LoadedObject → List Reloc → List (Option ℕ) → List ℕ → List HeldWord → Type 0
+AreHeldIn original rs words remaining all = AllZip (IsHeldIn original rs words) remaining all
+
+-- the same of a library
 abbrev pub AreHeld : List ℕ → Object → List (Option ℕ) → List ℕ → List HeldWord → Type 0
-AreHeld original o words remaining all = AllZip (IsHeldIn (loaded_at 0 original o ∷ []) o.relocations words) remaining all
+AreHeld original o words remaining all = AreHeldIn (loaded_at 0 original o ∷ []) o.relocations words remaining all

@@ -22,14 +22,13 @@ use Rattle.pl_rewrite.specs.Flags.{flagged}
 use Rattle.pl_rewrite.specs.Libraries.{storable_library}
 use Rattle.pl_rewrite.specs.Libraries as libraries
 use Rattle.pl_rewrite.specs.Reports as reports
-use Rattle.pl_rewrite.specs.Rows.{IsFileMeant, IsWalkRow, is_library_row, walk_of}
+use Rattle.pl_rewrite.specs.Rows.{IsFileMeant, IsNumbered, IsWalkRow, is_library_row, walk_of}
 use Rattle.pl_rewrite.specs.RowWords.{AreRowWords, is_set, own_words_at}
-use Rattle.pl_rewrite.specs.Contents.{IsNewProgram, IsProgramRow}
+use Rattle.pl_rewrite.specs.Contents.{IsNewProgram, IsProgramRow, IsWork}
 use Rattle.pl_rewrite.specs.declared.finishing.MadeFiles.{MadeFiles}
 use Rattle.pl_rewrite.specs.declared.finishing.Made.{Made}
 use Rattle.pl_rewrite.specs.declared.numbers.Numbered.{Numbered}
 use Rattle.pl_rewrite.specs.declared.outcomes.NewLibrary.{NewLibrary}
-use Rattle.pl_rewrite.specs.declared.outcomes.NewProgram.{NewProgram}
 use Rattle.pl_rewrite.specs.declared.outcomes.RowOutcome.{RowOutcome}
 use Rattle.pl_rewrite.specs.declared.outcomes.RowOutcome.TheVariants as outcomes
 use Rattle.pl_rewrite.specs.declared.program.Work.{Work}
@@ -62,12 +61,12 @@ put_original t = changes.put (Some t.bytes) t.name (Some (original_in t.bytes))
 abbrev pub made_original : Taken → Skip → Made
 made_original t cause = record { change = put_original t; state = states.Skipped cause; given = false }
 
-abbrev pub made_program : Taken → NewProgram → Made
-made_program t p = record { change = changes.put (Some t.bytes) t.name (Some p.file.items); state = states.Program false p.conflicts; given = true }
+abbrev pub renewed : Taken → List ℕ → RowState → Made
+renewed t file state = record { change = changes.put (Some t.bytes) t.name (Some file); state = state; given = true }
 
 abbrev pub made_with : Taken → NewLibrary → Option (List ℕ) → Made
 made_with t parts None = made_original t (too_large t)
-made_with t parts (Some file) = record { change = changes.put (Some t.bytes) t.name (Some file); state = states.Library false parts.slot parts.stamp; given = true }
+made_with t parts (Some file) = renewed t file (states.Library false parts.slot parts.stamp)
 
 abbrev pub made_library : Taken → NewLibrary → Made
 made_library t parts = made_with t parts (storable_library t parts Two)
@@ -75,7 +74,7 @@ made_library t parts = made_with t parts (storable_library t parts Two)
 abbrev pub made_by : Taken → RowOutcome → Made
 made_by t (outcomes.Unchanged state) = record { change = None; state = state; given = false }
 made_by t (outcomes.Original cause) = made_original t cause
-made_by t (outcomes.Program p) = made_program t p
+made_by t (outcomes.Program p) = renewed t p.file.items (states.Program false p.conflicts)
 made_by t (outcomes.Library parts) = made_library t parts
 
 abbrev pub HasLibraryForm : Taken → NewLibrary → Type 0
@@ -175,6 +174,11 @@ pub record IsStaleColumn (n : Numbered) (stale : List Bool) : Type 0 where
   pub count : length stale ≡ length n.files.now
   pub walks : HaveWalks n stale
 
+-- the files are numbered too
+pub record IsStaleRun (n : Numbered) (stale : List Bool) : Type 0 where
+  pub numbered : IsNumbered n
+  pub column : IsStaleColumn n stale
+
 -- ---- what is made of them
 
 -- that the form of the file of a row is too large
@@ -220,6 +224,12 @@ pub record AreToldRows (n : Numbered) (stale : List Bool) (all : List RowWords) 
 -- each stale program can be made
 abbrev pub AreProgramRows : Work → List Bool → Type 0
 AreProgramRows w stale = (row : ℕ) → is_stale_program w.numbered.now stale row ≡ true → IsProgramRow w row
+
+-- with a flag for each file
+pub record CanMakePrograms (w : Work) (stale : List Bool) : Type 0 where
+  pub work : IsWork w
+  pub count : length stale ≡ length w.numbered.now.files.now
+  pub rows : AreProgramRows w stale
 
 -- these are the own words of a row, where that is a stale library's
 abbrev pub HasWordsIf : Numbered → List Bool → ℕ → List (Option ℕ) → Type 0

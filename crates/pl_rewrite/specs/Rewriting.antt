@@ -1,8 +1,8 @@
 -- A whole run: what it changes, the cache that it leaves, and what it reports.
-use Rattle.std.specs.Prelude.{◌≡◌, ℕ, ◌||◌, Err, if◌then◌else◌, List, [], ◌∷◌, ◌++◌, map, Result, Ok}
+use Rattle.std.specs.Prelude.{ℕ, if◌then◌else◌, List, map, Result, Ok}
 use Rattle.std.specs.List.{AllZip, list_any}
-use Rattle.pl_base.specs.Answers.{◌>>=◌, Answers}
-use Rattle.pl_cone.specs.Taken.{AreTaken, files_in, names_of}
+use Rattle.pl_base.specs.Answers.{◌>>=◌}
+use Rattle.pl_cone.specs.Taken.{AreTaken, files_in}
 use Rattle.pl_cone.specs.declared.taken.Taken.{Taken}
 use Rattle.pl_cone.specs.declared.planning.Asked.{Asked}
 use Rattle.pl_cone.specs.declared.fault.PlanningFault.{PlanningFault}
@@ -10,12 +10,10 @@ use Rattle.pl_cone.specs.Plans.{RunPlan, planned}
 use Rattle.law_sound.specs.Rule.{Files}
 use Rattle.pl_elf.specs.declared.range.Range.{Range}
 use Rattle.pl_rewrite.specs.Changes.{changes, is_given, next_cache}
-use Rattle.pl_cone.specs.Faulted.{is_memory}
 use Rattle.pl_cone.specs.declared.planning.RowPlan.{RowPlan}
 use Rattle.pl_rewrite.specs.Outcomes.{IsOutcome, planned_of}
 use Rattle.pl_rewrite.specs.Reports.{report, row_of}
 use Rattle.pl_rewrite.specs.declared.outcomes.RowOutcome.{RowOutcome}
-use Rattle.pl_rewrite.specs.declared.rewriting.Decided.{Decided}
 use Rattle.pl_rewrite.specs.declared.finishing.MadeFiles.{MadeFiles}
 use Rattle.pl_rewrite.specs.declared.rewriting.Rewritten.{Rewritten}
 
@@ -50,8 +48,3 @@ run_made files ns region p = record {
 pub record AreDecided (ts : List Taken) (a : Asked) (p : RowPlan) (os : List RowOutcome) : Type 0 where
   pub taken : AreTaken a.region ts
   pub each : AllZip (IsOutcome (files_in ts) a.region (planned_of ts a p)) ts os
-
--- a plan, and the outcome of each file by it; or the first cause why there is no plan
-abbrev pub Decides : List Taken → Asked → Result Decided PlanningFault → Type 0
-Decides ts a (Ok d) = (planned (files_in ts) (names_of ts) a ≡ Ok (planned_of ts a d.plan)) × AreDecided ts a d.plan d.outcomes.items
-Decides ts a (Err fault) = Answers is_memory (Err fault) (planned (files_in ts) (names_of ts) a)

@@ -1,5 +1,5 @@
 -- What the relocations of files give, once the slots are known.
-use Rattle.std.specs.Prelude.{◌≡◌, ◌<◌, ℕ, Bool, true, false, ◌||◌, List, [], length, slice_get, Option, Some, None}
+use Rattle.std.specs.Prelude.{◌≡◌, ◌<◌, ℕ, Bool, true, false, ◌||◌, List, length, slice_get, Option, Some, None}
 use Rattle.std.specs.List.{All}
 use Rattle.pl_cone.specs.Table.{IsLinkBy}
 use Rattle.pl_cone.specs.declared.linking.Link.{Link}
@@ -40,6 +40,9 @@ pub record IsLinkAt (n : Numbered) (row : ℕ) (l : Link) : Type 0 where
   pub walk : IsWalkRow n row
   pub by : IsLinkBy n.files.now n.index.now (walk_of n row) l
 
+abbrev pub IsLinkIf : Numbered → Needed → ℕ → Link → Type 0
+IsLinkIf n needed row l = is_needed needed row ≡ true → IsLinkAt n row l
+
 -- one for each row; those of the rows that are needed tell it
 pub record AreLinks (n : Numbered) (need : ℕ → Bool) (links : List Link) : Type 0 where
   pub count : length links ≡ length n.files.now
@@ -49,14 +52,13 @@ pub record AreLinks (n : Numbered) (need : ℕ → Bool) (links : List Link) : T
 abbrev pub AreOfRow : Numbered → ℕ → List ℕ → Type 0
 AreOfRow n row remaining = (r : Firm) → IsFirmAt n row r → All (λ i. i < length r.object.relocations) remaining
 
-pub record IsNothing (s : RowWords) : Type 0 where
-  pub words : s.words ≡ []
-  pub held : s.held ≡ []
-  pub found : s.found ≡ []
-
 -- the words that the file of the library of a row holds at the places of its remaining relocations
 abbrev pub AreHeldAt : Numbered → ℕ → List ℕ → List HeldWord → Type 0
 AreHeldAt n row remaining held = (r : Firm) → IsFirmAt n row r → AreHeld r.member.original r.object (own_words_at n row) remaining held
+
+-- where they are asked for
+abbrev pub AreHeldIf : Bool → Numbered → ℕ → List ℕ → List HeldWord → Type 0
+AreHeldIf asked n row remaining held = asked ≡ true → AreHeldAt n row remaining held
 
 -- what is asked of a row is there, and is so, by what its relocations find
 pub record AreRowWordsBy (n : Numbered) (row : ℕ) (asked : Needed) (link : Link) (s : RowWords) : Type 0 where

@@ -1,11 +1,11 @@
 -- Rows of a folder's files with their numbers, and the members that they are.
-use Rattle.std.specs.Prelude.{◌≡◌, ◌<◌, ℕ, Bool, true, false, List, [], ◌∷◌, ◌++◌, ◌+◌, map, length, slice_get, Option, Some, None}
-use Rattle.std.specs.List.{All, filter_map}
+use Rattle.std.specs.Prelude.{◌≡◌, ◌<◌, ℕ, Bool, true, false, List, [], ◌∷◌, map, length, slice_get, Option, Some, None, IfSome}
+use Rattle.std.specs.List.{All, AllZip, filter_map}
 use Rattle.std.specs.Option.{option_map}
 use Rattle.pl_base.specs.Names.{is_valid_name}
 use Rattle.pl_base.specs.Windows.{Window}
 use Rattle.pl_cone.specs.Table.{AreRows, AreWalks, IsWalkScope, folder_objects, refusals_in, rows_in}
-use Rattle.pl_cone.specs.Taken.{AreTaken, object_by}
+use Rattle.pl_cone.specs.Taken.{AreTaken, HasItsEntry, object_by}
 use Rattle.pl_cone.specs.declared.taken.Taken.{Taken}
 use Rattle.pl_conflict.specs.Format.{number_of}
 use Rattle.pl_conflict.specs.Prelinked as firm
@@ -20,6 +20,7 @@ use Rattle.pl_rewrite.specs.Sources.{AreSources, IsPrelinkedIn}
 use Rattle.pl_rewrite.specs.declared.numbers.Numbered.{Numbered}
 use Rattle.pl_rewrite.specs.declared.numbers.PlacedWalk.{PlacedWalk}
 use Rattle.pl_scope.specs.Folder.{IsFolderIndex}
+use Rattle.sha2.specs.Sha256.{sha256}
 
 -- ---- rows
 
@@ -42,13 +43,24 @@ walk_of n row = rows_in (slice_get n.walks.now row)
 abbrev pub places_of : List ℕ → List ℕ → List ℕ
 places_of places rows = map (number_at places) rows
 
--- files that were taken, with the walk of each name, the index of what they define, and a slot and a stamp for each
+abbrev pub AreFilesRead : List Taken → Type 0
+AreFilesRead ts = All HasItsEntry ts
+
+abbrev pub IsDigestOf : Taken → Option (List ℕ) → Type 0
+IsDigestOf t digest = IfSome digest (λ d. d ≡ sha256 (original_in t.bytes))
+
+-- the SHA-256 of the original of each, of those that are asked for
+abbrev pub AreDigests : List Taken → List (Option (List ℕ)) → Type 0
+AreDigests ts digests = AllZip IsDigestOf ts digests
+
+-- files that were taken, with the walk of each name, the index of what they define, a slot and a stamp for each, and the digests that are asked for
 pub record IsNumbered (n : Numbered) : Type 0 where
   pub taken : (region : Range) × AreTaken region n.files.now
   pub walks : AreWalks n.files.now (record { walks = n.walks.now; causes = refusals_in n.files.now })
   pub index : IsFolderIndex (folder_objects n.files.now) n.index.now
   pub places : length n.places.now ≡ length n.files.now
   pub stamps : length n.stamps.now ≡ length n.files.now
+  pub digests : AreDigests n.files.now n.digests.now
 
 pub record IsPlacedWalk (n : Numbered) (row : ℕ) (p : PlacedWalk) : Type 0 where
   pub walk : IsWalkScope n.files.now (walk_of n row) p.walk
@@ -113,6 +125,7 @@ pub record IsWalkRow (n : Numbered) (row : ℕ) : Type 0 where
 
 -- a row of a library, which has a walk
 pub record IsLibraryRow (n : Numbered) (row : ℕ) : Type 0 where
+  pub numbered : IsNumbered n
   pub within : row < length n.files.now
   pub walk : IsWalkRow n row
   pub library : is_library_row n row ≡ true

@@ -1,20 +1,20 @@
 -- Whether a file is the prelinked file of the originals that are there.
-use Rattle.std.specs.Prelude.{◌≡◌, ◌≤◌, ℕ, Bool, true, false, List, [], length, map, slice_get, Option, Some, None, is_some, if◌then◌else◌}
+use Rattle.std.specs.Prelude.{◌≡◌, ℕ, Bool, true, false, List, map, slice_get, Option, Some, None, Vec, is_some, if◌then◌else◌}
+use Rattle.std.specs.declared.alloc.Global.{Global}
 use Rattle.std.specs.List.{list_all}
 use Rattle.std.specs.Str.{bytes_eq}
-use Rattle.std.specs.Option.{option_and_then}
+use Rattle.std.specs.Option.{option_and_then, option_map}
 use Rattle.pl_conflict.specs.Format.{format}
 use Rattle.pl_form.specs.declared.file.Marked.{Marked}
 use Rattle.pl_cone.specs.Currency.{old_stamp}
 use Rattle.pl_cone.specs.Skipped.{skip_causes}
 use Rattle.pl_cone.specs.Taken.{files_in, marked_by}
-use Rattle.pl_cone.specs.declared.linking.Link.{Link}
 use Rattle.pl_cone.specs.declared.taken.Taken.{Taken}
 use Rattle.law_sound.specs.Rule as sound
 use Rattle.law_sound.specs.Rule.{Files, original_at}
 use Rattle.pl_form.specs.declared.version.Version.{Version}
-use Rattle.pl_rewrite.specs.Rows.{IsFileMeant, IsWalkRow, walk_of}
-use Rattle.pl_rewrite.specs.RowWords.{IsLinkAt, is_needed}
+use Rattle.pl_rewrite.specs.Rows.{IsFileMeant, IsNumbered, IsWalkRow}
+use Rattle.pl_rewrite.specs.RowWords.{IsNeeded, is_needed}
 use Rattle.pl_rewrite.specs.declared.numbers.Numbered.{Numbered}
 use Rattle.pl_rewrite.specs.declared.row_words.Needed.{Needed}
 
@@ -52,14 +52,8 @@ pub record AreBorne (n : Numbered) : Type 0 where
 
 -- ---- the file that is meant of a row
 
--- a row that has a walk is the first of it, and its members have forms
-abbrev pub IsWalkOrNone : Numbered → ℕ → Type 0
-IsWalkOrNone n row = 1 ≤ length (walk_of n row) → IsWalkRow n row
-
--- none where there is no walk
-pub record IsMeantOrNone (n : Numbered) (row : ℕ) (version : Version) (file : Option (List ℕ)) : Type 0 where
-  pub none : walk_of n row ≡ [] → file ≡ None
-  pub meant : IsWalkRow n row → IsFileMeant n row version file
+abbrev pub IsMeantFile : Numbered → ℕ → Version → Option (Vec ℕ Global) → Type 0
+IsMeantFile n row version file = IsFileMeant n row version (option_map (λ v. v.items) file)
 
 -- where the file of the row bears the version
 abbrev pub IsMeantIn : List Taken → ℕ → Version → Option (List ℕ) → Type 0
@@ -69,18 +63,14 @@ abbrev pub is_same : Option (List ℕ) → List ℕ → Bool
 is_same None bytes = false
 is_same (Some file) bytes = bytes_eq file bytes
 
--- the file of a row is prelinked, and this is its mark
-abbrev pub IsMarkOf : List Taken → ℕ → Marked → Type 0
-IsMarkOf ts row m = (t : Taken) → slice_get ts row ≡ Some t → marked_by t.entry ≡ Some m
-
-abbrev pub IsOriginalIfMeant : List Taken → ℕ → Option (List ℕ) → Type 0
-IsOriginalIfMeant ts row original = (t : Taken) → slice_get ts row ≡ Some t → original ≡ verified_original (files_in ts) t.name
-
 -- ---- what the relocations of rows find
 
 -- each row that is needed has a walk
 abbrev pub HaveNeededWalks : Numbered → Needed → Type 0
 HaveNeededWalks n needed = (row : ℕ) → is_needed needed row ≡ true → IsWalkRow n row
 
-abbrev pub IsLinkIf : Numbered → Needed → ℕ → Link → Type 0
-IsLinkIf n needed row l = is_needed needed row ≡ true → IsLinkAt n row l
+-- those of numbered files, with a flag of each for each row
+pub record AreNeededRows (n : Numbered) (needed : Needed) : Type 0 where
+  pub numbered : IsNumbered n
+  pub flags : IsNeeded n needed
+  pub walks : HaveNeededWalks n needed

@@ -1,12 +1,9 @@
 // Whether the members of a walk can be prelinked together.
 ghost use Rattle.std.specs.Prelude.{◌≡◌, ◌<◌, ◌+◌, ◌++◌, ◌%◌, ◌==◌, ◌&&◌, IfOk, OnOk, not, map, length, nat_le};
 ghost use Rattle.std.specs.List.{All, flat_map, list_all};
-ghost use Rattle.std.specs.List.Sorted.{IsNonDecreasingBy, IsPermutation};
 ghost use Rattle.pl_conflict.specs.Prelinked as firm;
 ghost use Rattle.pl_elf.specs.Headers.{loads};
-ghost use Rattle.pl_elf.specs.Sweep as sweeping;
-ghost use Rattle.pl_object.specs.FilePart.{nothing};
-ghost use Rattle.pl_base.specs.Windows.{any_share};
+ghost use Rattle.pl_base.specs.Windows as windows_by;
 ghost use Rattle.pl_cone.specs.Table.{AreRows};
 ghost use Rattle.pl_rewrite.specs.Rows as spec;
 ghost use Rattle.pl_rewrite.specs.Sources.{AreSources};
@@ -15,12 +12,9 @@ use crate::numbers::Numbered;
 use pl_base::{end, is_valid_name};
 use pl_elf::constants::ADDRESS_LIMIT;
 use pl_elf::{Segment, loads};
-use pl_object::{Object, Window};
+use pl_object::{Object, Window, any_share};
 use std::alloc::{AllocError, Global};
 
-// ---- numbers and names
-
-/// Whether a library of this alignment and span may stand at a slot: it is a multiple of the alignment, and the library ends there at or below the limit of addresses.
 fn is_placed(slot: u64, align: u64, span: u64) -> bool
     requires { 0 < align }
     ensures { result ≡ (slot % align == 0 && nat_le (slot + span) ADDRESS_LIMIT) }
@@ -34,7 +28,6 @@ fn is_at_zero(slot: u64, stamp: u32) -> bool
     slot == 0 && stamp == 0
 }
 
-/// Whether a slot and a stamp are such as an object may have: a library a slot where it may stand, a program both 0.
 fn numbers_fit(object: &Object, slot: u64, stamp: u32) -> bool
     requires { 0 < object.now.align }
     ensures { result ≡ spec.numbers_fit object.now slot stamp }
@@ -45,7 +38,6 @@ fn numbers_fit(object: &Object, slot: u64, stamp: u32) -> bool
     is_at_zero(slot, stamp)
 }
 
-/// Whether the slot and the stamp of a file are such as it may have.
 fn has_numbers(numbered: &Numbered<'_>, row: usize) -> bool
     requires numbered { spec.IsNumbered numbered.now }
     requires row { row < length numbered.now.files.now }
@@ -72,31 +64,21 @@ fn all_have_numbers(numbered: &Numbered<'_>, walk: &[u32]) -> bool
     true
 }
 
-fn is_named_well(numbered: &Numbered<'_>, row: usize) -> bool
-    requires row { row < length numbered.now.files.now }
-    ensures { result ≡ spec.is_named_well numbered.now row }
-{
-    let taken = &numbered.files[row];
-    match taken.object() {
-        None => false,
-        Some(_) => is_valid_name(taken.name.as_str().as_bytes()),
-    }
-}
-
-/// Whether the names of the files of rows are valid.
 fn all_have_names(numbered: &Numbered<'_>, others: &[u32]) -> bool
     requires { spec.AreRowsOf numbered.now.files.now others.now }
     ensures { result ≡ list_all (spec.is_named_well numbered.now) others.now }
 {
     for row in others {
-        if !is_named_well(numbered, *row as usize) {
+        let taken = &numbered.files[*row as usize];
+        let Some(_) = taken.object() else {
+            return false;
+        };
+        if !is_valid_name(taken.name.as_str().as_bytes()) {
             return false;
         }
     }
     true
 }
-
-// ---- addresses
 
 fn load_window(segment: &Segment) -> Window
     ensures { result ≡ firm.load_window segment.now }
@@ -104,7 +86,6 @@ fn load_window(segment: &Segment) -> Window
     Window::new(u128::from(segment.vaddr), segment.memsz)
 }
 
-/// Adds what the PT_LOADs of a program take up.
 fn add_loads(alloc: Global, windows: &mut Vec<Window>, object: &Object) -> Result<(), AllocError>
     ensures { OnOk result (windows.new.items
         ≡ windows.old.items ++ map firm.load_window (loads object.now.segments)) }
@@ -119,27 +100,24 @@ fn add_loads(alloc: Global, windows: &mut Vec<Window>, object: &Object) -> Resul
 /// Adds what a file takes up: a library the addresses from its slot to its end, a program those of its PT_LOADs.
 fn add_windows(
     alloc: Global,
-    windows: &mut Vec<Window>,
+    all: &mut Vec<Window>,
     numbered: &Numbered<'_>,
     row: usize,
 ) -> Result<(), AllocError>
     requires numbered { spec.IsNumbered numbered.now }
     requires row { row < length numbered.now.files.now }
-    ensures { OnOk result (windows.new.items
-        ≡ windows.old.items ++ spec.windows_of numbered.now row) }
+    ensures { OnOk result (all.new.items ≡ all.old.items ++ spec.windows_of numbered.now row) }
 {
     let Some(object) = numbered.files[row].object() else {
         return Ok(());
     };
     if !object.kind.is_library() {
-        return add_loads(alloc, windows, object);
+        return add_loads(alloc, all, object);
     }
-    let window = Window::new(u128::from(numbered.places[row]), object.span);
-    windows.push(window)?;
+    all.push(Window::new(u128::from(numbered.places[row]), object.span))?;
     Ok(())
 }
 
-/// What the files of rows take up.
 fn windows(alloc: Global, numbered: &Numbered<'_>, walk: &[u32]) -> Result<Vec<Window>, AllocError>
     requires numbered { spec.IsNumbered numbered.now }
     requires rows { spec.AreRowsOf numbered.now.files.now walk.now }
@@ -152,46 +130,15 @@ fn windows(alloc: Global, numbered: &Numbered<'_>, walk: &[u32]) -> Result<Vec<W
     Ok(windows)
 }
 
-fn later(last: Window, window: &Window) -> Window
-    ensures { result ≡ sweeping.later last window.now }
-{
-    if window.size() == 0 { last } else { *window }
-}
-
-/// Whether a window has an address in common with the last one before it that has some.
-#[tactic(auto, using(pl_elf::proofs::SweepLaws::sweep_done))]
-fn sweep(windows: &[Window]) -> bool
-    ensures { result ≡ sweeping.sweep nothing windows.now }
-{
-    let mut last = Window::new(0, 0);
-    for window in windows {
-        if last.shares(window) {
-            return true;
-        }
-        last = later(last, window);
-    }
-    false
-}
-
-/// Puts windows into the order of where they begin.
-fn sort_windows(windows: &mut [Window])
-    ensures same { IsPermutation windows.old windows.new }
-    ensures len { length windows.new ≡ length windows.old }
-    ensures rising { IsNonDecreasingBy (λ w. w.at) windows.new }
-{
-    windows.sort_unstable_by_key(|window| window.at());
-}
-
 /// Whether no two files have an address in common. The time grows as `n log n`.
 fn are_apart(alloc: Global, numbered: &Numbered<'_>, walk: &[u32]) -> Result<bool, AllocError>
     requires numbered { spec.IsNumbered numbered.now }
     requires rows { spec.AreRowsOf numbered.now.files.now walk.now }
-    ensures { IfOk result (λ b. b ≡ not (any_share
+    ensures { IfOk result (λ b. b ≡ not (windows_by.any_share
         (flat_map (spec.windows_of numbered.now) walk.now))) }
 {
-    let mut sorted = windows(alloc, numbered, walk)?;
-    sort_windows(&mut sorted);
-    Ok(!sweep(&sorted))
+    let windows = windows(alloc, numbered, walk)?;
+    Ok(!any_share(windows))
 }
 
 /// Whether the members of the walk of a row can be prelinked together: their numbers are such as they may have, what they take up has no address in common, and the names of those after the first are valid.

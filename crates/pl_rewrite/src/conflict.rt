@@ -1,6 +1,6 @@
 // What the relocations of a program give, its conflict rows, and the words that its copies read.
 ghost use Rattle.std.specs.Prelude.{◌≡◌, ◌<◌, filter, true, length, IfErr, IfOk, OnOk};
-ghost use Rattle.std.specs.List.{All, AllZip};
+ghost use Rattle.std.specs.List.{All};
 ghost use Rattle.std.specs.List.Sorted.{IsNonDecreasingBy, IsPermutation};
 ghost use Rattle.std.specs.Str.{bytes_eq};
 ghost use Rattle.pl_base.specs.Bytes.{bytes64};
@@ -26,14 +26,12 @@ use std::alloc::{AllocError, Global};
 /// What the relocations of the libraries of a program's walk make.
 #[derive(Drop)]
 pub struct RemainingRows {
-    /// The conflict rows.
     pub rows: Vec<ConflictRow>,
 
     /// The words that are given in the ranges from which the program copies.
     pub near: Vec<Meaning>,
 }
 
-/// The place of a relocation of a member as loaded.
 fn start_of(places: &Places, member: u32, reloc: &Reloc) -> u64
     requires { member < length places.now }
     ensures { result ≡ plus (base_of places.now member) reloc.now.address }
@@ -71,12 +69,7 @@ fn meaning_with(
     })
 }
 
-/// What a relocation of a member gives, by one look-up.
-fn meaning_of(
-    linking: &WalkLinking<'_, '_>,
-    member: u32,
-    reloc: &Reloc,
-) -> Result<Meaning, LinkFault>
+fn gives(linking: &WalkLinking<'_, '_>, member: u32, reloc: &Reloc) -> Result<Meaning, LinkFault>
     requires linking { IsLinking linking.now }
     requires member { member < length linking.now.places.now }
     requires reference { IsSymbol (objects_of linking.now) member reloc.now.symbol }
@@ -86,14 +79,12 @@ fn meaning_of(
     meaning_with(linking, member, reloc, found)
 }
 
-/// Whether a word is the one that is held.
 fn is_same(held: u64, word: u64) -> bool
     ensures { result ≡ bytes_eq (bytes64 held) (bytes64 word) }
 {
     held == word
 }
 
-/// The row of a relocation at whose place its member's file holds this word.
 fn row_with(meaning: &Meaning, held: u64) -> Option<ConflictRow>
     ensures { spec.IsRowBy meaning.now held result }
 {
@@ -129,7 +120,7 @@ fn add_rows(
     ensures refused { IfErr result (spec.RefusesOne linking.now member relocs.now) }
 {
     for one in held {
-        let meaning = meaning_of(linking, member, &relocs[one.index as usize])?;
+        let meaning = gives(linking, member, &relocs[one.index as usize])?;
         if let Some(row) = row_with(&meaning, one.word) {
             rows.push(row)?;
         }
@@ -137,7 +128,6 @@ fn add_rows(
     Ok(())
 }
 
-/// Whether a word is given at a place near ranges.
 fn is_near_word(ranges: &Ranges, meaning: &Meaning) -> bool
     ensures { result ≡ spec.is_near_word ranges.now meaning.now }
 {
@@ -162,7 +152,7 @@ fn add_near(
 {
     for reloc in relocs {
         if ranges.is_near(start_of(linking.places, member, reloc)) {
-            let meaning = meaning_of(linking, member, reloc)?;
+            let meaning = gives(linking, member, reloc)?;
             if is_near_word(ranges, &meaning) {
                 near.push(meaning)?;
             }
@@ -171,7 +161,6 @@ fn add_near(
     Ok(())
 }
 
-/// Adds the rows of a member, and the words that it gives in the ranges.
 fn add_member(
     linking: &WalkLinking<'_, '_>,
     member: u32,
@@ -186,8 +175,7 @@ fn add_member(
         found_rows.old found_rows.new) }
     ensures refused { IfErr result (spec.RefusesMember linking.now member) }
 {
-    let object = linking.scope.object(member);
-    let relocs = object.relocations.as_slice();
+    let relocs = linking.scope.object(member).relocations.as_slice();
     add_rows(linking, member, relocs, held, &mut found_rows.rows)?;
     if ranges.is_empty() {
         return Ok(());
@@ -196,7 +184,6 @@ fn add_member(
     Ok(())
 }
 
-/// Puts rows into ascending order of their addresses.
 fn sort_rows(rows: &mut Vec<ConflictRow>)
     ensures rows { IsPermutation rows.old.items rows.new.items }
     ensures sorted { IsNonDecreasingBy (λ r. r.address) rows.new.items }
@@ -204,7 +191,6 @@ fn sort_rows(rows: &mut Vec<ConflictRow>)
     rows.sort_unstable_by_key(|row| row.address);
 }
 
-/// The words of the program itself that are given in the ranges from which it copies.
 fn own_near(alloc: Global, own: &[Meaning], ranges: &Ranges) -> Result<Vec<Meaning>, AllocError>
     ensures { IfOk result (λ v. v.items ≡ filter (spec.is_near_word ranges.now) own.now) }
 {
@@ -214,9 +200,7 @@ fn own_near(alloc: Global, own: &[Meaning], ranges: &Ranges) -> Result<Vec<Meani
         .collect(alloc)
 }
 
-/// The conflict rows of a program by the remaining relocations of its libraries, ascending by address, and the words of the walk that are given in the ranges from which the program copies, in the order of the relocations. `own` is what the program's own relocations give; `row_words` has for the library of each row of the walk its remaining relocations, with the words that its file holds at their places. Else the first relocation of the walk that has no value, or NoMemory.
-///
-/// The rows are those that `conflicts` of pl_conflict gives.
+/// The conflict rows of a program by the remaining relocations of its libraries, ascending by address, and the words of the walk that are given in the ranges from which the program copies, in the order of the relocations. `own` is what the program's own relocations give; `row_words` has for the library of each row of the walk its remaining relocations, with the words that its file holds at their places. Else the first relocation of the walk that has no value, or NoMemory. The rows are those that `conflicts` of pl_conflict gives.
 pub fn remaining_rows(
     alloc: Global,
     linking: &WalkLinking<'_, '_>,
@@ -245,29 +229,7 @@ pub fn remaining_rows(
     Ok(found_rows)
 }
 
-/// What relocations of the first member give, in their order, by what each finds; or the first that has no value.
-fn given_by(
-    alloc: Global,
-    linking: &WalkLinking<'_, '_>,
-    relocs: &[Reloc],
-    found: &[Option<Found>],
-) -> Result<Rows<Meaning>, OrdinaryFault>
-    requires linking { IsLinking linking.now }
-    requires some { 0 < length linking.now.places.now }
-    requires references { All (λ r. IsSymbol (objects_of linking.now) 0 r.symbol) relocs.now }
-    requires found { AllZip (λ r f. IsSought (objects_of linking.now) (reference 0 r) f) relocs.now
-        found.now }
-    ensures { spec.GivesOf linking.now relocs.now result }
-{
-    let mut all = Rows::from_vec(Vec::with_capacity(alloc, relocs.len())?);
-    for index in 0..relocs.len() {
-        let meaning = meaning_with(linking, 0, &relocs[index], found[index])?;
-        all.push(meaning)?;
-    }
-    Ok(all)
-}
-
-/// What the relocations of the program give, which is the first of the walk.
+/// What the relocations of the program give, which is the first of the walk, in their order, by what each finds; or the first that has no value.
 pub fn own_meanings(
     alloc: Global,
     linking: &WalkLinking<'_, '_>,
@@ -278,6 +240,10 @@ pub fn own_meanings(
     requires found { spec.FindFirst linking.now found.now }
     ensures { spec.GivesFirst linking.now result }
 {
-    let object = linking.scope.object(0);
-    given_by(alloc, linking, object.relocations.as_slice(), found)
+    let relocs = linking.scope.object(0).relocations.as_slice();
+    let mut all = Rows::from_vec(Vec::with_capacity(alloc, relocs.len())?);
+    for index in 0..relocs.len() {
+        all.push(meaning_with(linking, 0, &relocs[index], found[index])?)?;
+    }
+    Ok(all)
 }

@@ -1,6 +1,5 @@
 // The bytes at the places of a program: its own words, and what its copies read.
-ghost use Rattle.std.specs.Prelude.{◌≡◌, ◌<◌, [], ◌∷◌, IfOk, OnOk, drop, length, take};
-ghost use Rattle.std.specs.List.{All};
+ghost use Rattle.std.specs.Prelude.{◌≡◌, ◌<◌, [], ◌∷◌, IfOk, length};
 ghost use Rattle.pl_base.specs.Bytes.{bytes64};
 ghost use Rattle.pl_form.specs.Words as form;
 ghost use Rattle.pl_image.specs.Image.{AreLoaded};
@@ -16,9 +15,6 @@ use pl_object::Reloc;
 use pl_value::{Meaning, Word, words};
 use std::alloc::{AllocError, Global};
 
-// ---- members
-
-/// An object that loads nothing.
 fn loads_nothing<'f>(alloc: Global) -> LoadedObject<'f>
     ensures { AreLoaded (result ∷ []) }
 {
@@ -46,30 +42,24 @@ fn loaded_at<'f>(
     let Some(object) = taken.object() else {
         return Ok(loads_nothing(alloc));
     };
-    let loaded = load_object(alloc, object, taken.original(), numbered.places[row])?;
-    Ok(loaded)
+    Ok(load_object(alloc, object, taken.original(), numbered.places[row])?)
 }
 
-/// The memory of the originals of rows, each at its place.
 fn members_loaded<'f>(
     alloc: Global,
     numbered: &Numbered<'f>,
     walk: &[u32],
 ) -> Result<Vec<LoadedObject<'f>>, AllocError>
-    requires numbered { rows.IsNumbered numbered.now }
-    requires within { All (λ row. row < length numbered.now.files.now) walk.now }
-    requires placed { All (spec.IsPlacedRow numbered.now) walk.now }
+    requires { spec.IsFillable numbered.now walk.now }
     ensures { IfOk result (λ v. spec.AreLoadedAt numbered.now walk.now v.items) }
 {
     let mut members = Vec::new(alloc);
     for row in walk {
-        let loaded = loaded_at(alloc, numbered, *row as usize)?;
-        members.push(loaded)?;
+        members.push(loaded_at(alloc, numbered, *row as usize)?)?;
     }
     Ok(members)
 }
 
-/// The part of some objects that is one of them.
 fn one_of<'t>(loaded: &'t [LoadedObject<'t>], member: u32) -> &'t [LoadedObject<'t>]
     requires { member < length loaded.now }
     ensures { spec.IsOneOf loaded.now member result.now }
@@ -78,53 +68,26 @@ fn one_of<'t>(loaded: &'t [LoadedObject<'t>], member: u32) -> &'t [LoadedObject<
     &loaded[index..index + 1]
 }
 
-// ---- copies
-
-/// So many of the first bytes, as far as there are any.
-fn first_bytes(bytes: &[u8], count: usize) -> &[u8]
-    ensures { result.now ≡ take count bytes.now }
-{
-    let at = count.min(bytes.len());
-    &bytes[..at]
-}
-
-/// The bytes after so many of the first.
-fn bytes_after(bytes: &[u8], count: usize) -> &[u8]
-    ensures { result.now ≡ drop count bytes.now }
-{
-    let at = count.min(bytes.len());
-    &bytes[at..]
-}
-
-/// Bytes with others written over the first of them.
 fn put_first(alloc: Global, bytes: &[u8], first: &[u8]) -> Result<Vec<u8>, AllocError>
     ensures { IfOk result (λ v. spec.PutsFirst first.now bytes.now v.items) }
 {
-    let over = first_bytes(first, bytes.len());
-    let rest = bytes_after(bytes, first.len());
-    let mut all = Vec::from_slice(alloc, over)?;
-    all.extend_from_slice(rest)?;
+    let count = first.len().min(bytes.len());
+    let mut all = Vec::from_slice(alloc, &first[..count])?;
+    all.extend_from_slice(&bytes[count..])?;
     Ok(all)
 }
-
-// ---- fills
 
 /// What is asked of a program's places.
 #[derive(Clone, Copy)]
 struct Filling<'t> {
     numbered: &'t Numbered<'t>,
-
-    /// The rows of the members of the program's walk, it first.
     walk: &'t [u32],
-
-    /// The memory of their originals.
     loaded: &'t [LoadedObject<'t>],
 
     /// The words of the walk in the ranges from which the program copies.
     near: &'t Patches,
 }
 
-/// The bytes of the program's original at the place of a relocation.
 fn standing_at(alloc: Global, filling: &Filling<'_>, reloc: &Reloc) -> Result<Vec<u8>, AllocError>
     requires { spec.IsFilling filling.now }
     ensures { IfOk result (λ v. spec.HasBytesAt filling.now reloc.now v.items) }
@@ -133,7 +96,6 @@ fn standing_at(alloc: Global, filling: &Filling<'_>, reloc: &Reloc) -> Result<Ve
     read_loaded(alloc, loaded, reloc.address, reloc.width)
 }
 
-/// The bytes of a word, the lowest first.
 fn word_bytes(alloc: Global, word: u64) -> Result<Vec<u8>, AllocError>
     ensures { IfOk result (λ v. v.items ≡ bytes64 word) }
 {
@@ -158,10 +120,7 @@ fn copied_over(
     let standing = standing_at(alloc, filling, reloc)?;
     let loaded = one_of(filling.loaded, member);
     let first = filling.near.read(alloc, loaded, from, bytes)?;
-    let before = standing.as_slice();
-    let over = first.as_slice();
-    let all = put_first(alloc, before, over)?;
-    Ok(all)
+    put_first(alloc, standing.as_slice(), first.as_slice())
 }
 
 /// The bytes at the place of a relocation of the program: the word that it gives; or those of the original, where it gives nothing; or what it copies, and behind that the original's.
@@ -186,37 +145,10 @@ fn bytes_at(
     }
 }
 
-/// Whether a relocation has a place: NONE has none.
 fn has_place(reloc: &Reloc) -> bool
     ensures { result ≡ form.has_place reloc.now }
 {
     reloc.kind != R_X86_64_NONE
-}
-
-/// Adds the bytes at the place of a relocation of the program, unless it is NONE.
-fn push_fill(
-    alloc: Global,
-    fills: &mut Vec<Fill>,
-    filling: &Filling<'_>,
-    reloc: &Reloc,
-    meaning: &Meaning,
-) -> Result<(), AllocError>
-    requires filling { spec.IsFilling filling.now }
-    requires member { spec.IsFillOf filling.now.walk.now meaning.now.word }
-    ensures { OnOk result (spec.AddsFill filling.now reloc.now meaning.now
-        fills.old.items fills.new.items) }
-{
-    let placed = has_place(reloc);
-    if !placed {
-        return Ok(());
-    }
-    let bytes = bytes_at(alloc, filling, reloc, meaning)?;
-    let rows = Rows::from_vec(bytes);
-    fills.push(Fill {
-        address: reloc.address,
-        bytes: rows,
-    })?;
-    Ok(())
 }
 
 /// A fill for each of a program's own relocations that is not NONE, in their order. `meanings` are what these give.
@@ -233,7 +165,14 @@ fn fills_of(
 {
     let mut fills = Vec::with_capacity(alloc, relocs.len())?;
     for index in 0..relocs.len() {
-        push_fill(alloc, &mut fills, filling, &relocs[index], &meanings[index])?;
+        let reloc = &relocs[index];
+        if has_place(reloc) {
+            let bytes = bytes_at(alloc, filling, reloc, &meanings[index])?;
+            fills.push(Fill {
+                address: reloc.address,
+                bytes: Rows::from_vec(bytes),
+            })?;
+        }
     }
     Ok(fills)
 }
@@ -247,15 +186,13 @@ pub fn program_fills(
     relocs: &[Reloc],
     meanings: &[Meaning],
 ) -> Result<Vec<Fill>, AllocError>
-    requires numbered { rows.IsNumbered numbered.now }
     requires walk { spec.IsFillable numbered.now walk.now }
     requires one_each { length meanings.now ≡ length relocs.now }
     requires members { spec.AreFillsOf walk.now meanings.now }
     ensures { IfOk result (λ v. spec.AreFillsNear numbered.now walk.now near.now relocs.now
         meanings.now v.items) }
 {
-    let patches = words(alloc, near)?;
-    let indexed = Patches::new(alloc, patches)?;
+    let indexed = Patches::new(alloc, words(alloc, near)?)?;
     let loaded = members_loaded(alloc, numbered, walk)?;
     let filling = Filling {
         numbered,
@@ -263,6 +200,5 @@ pub fn program_fills(
         loaded: &loaded,
         near: &indexed,
     };
-    let fills = fills_of(alloc, &filling, relocs, meanings)?;
-    Ok(fills)
+    fills_of(alloc, &filling, relocs, meanings)
 }

@@ -1,5 +1,5 @@
 // What is made of files by their outcomes; each file is let go in its turn.
-ghost use Rattle.std.specs.Prelude.{◌≡◌, ◌||◌, IfOk, Some, if◌then◌else◌};
+ghost use Rattle.std.specs.Prelude.{◌≡◌, IfOk, OnOk, Some, if◌then◌else◌};
 ghost use Rattle.std.specs.List.{All};
 ghost use Rattle.pl_cone.specs.Taken.{HasItsEntry, files_in, names_of};
 ghost use Rattle.pl_rewrite.specs.Changes as changes;
@@ -7,7 +7,7 @@ ghost use Rattle.pl_rewrite.specs.Outcomes as told;
 ghost use Rattle.pl_rewrite.specs.Rewriting as spec;
 
 use crate::library::storable_library;
-use crate::outcomes::{NewLibrary, NewProgram, RowOutcome, too_large};
+use crate::outcomes::{NewLibrary, RowOutcome, too_large};
 use crate::rewriting::Rewritten;
 use crate::{Report, ReportRow, RowState};
 use pl_base::{Rows, Text};
@@ -23,8 +23,6 @@ use std::alloc::{AllocError, Global};
 pub struct Made {
     /// Its row in the journal; None where its bytes would not change.
     pub change: Option<Change>,
-
-    /// What is reported of it.
     pub state: RowState,
 
     /// Whether it gets the stamp of the run.
@@ -34,10 +32,7 @@ pub struct Made {
 /// What a run makes of all files.
 #[derive(Drop)]
 pub struct MadeFiles {
-    /// The rows of the journal.
     pub rows: Rows<Change>,
-
-    /// What is reported.
     pub states: Rows<ReportRow>,
 
     /// Whether a file gets the stamp of the run.
@@ -46,8 +41,7 @@ pub struct MadeFiles {
 
 /// The row that gives a name other bytes than its old ones; None where they are the same.
 fn put(alloc: Global, name: &str, old: &[u8], bytes: Vec<u8>) -> Result<Option<Change>, AllocError>
-    ensures { IfOk result (λ row. row
-        ≡ changes.put (Some old.now) name.now (Some bytes.items)) }
+    ensures { IfOk result (λ r. r ≡ changes.put (Some old.now) name.now (Some bytes.items)) }
 {
     if old == bytes.as_slice() {
         return Ok(None);
@@ -66,11 +60,8 @@ fn put_original(alloc: Global, taken: &Taken) -> Result<Option<Change>, AllocErr
     let Some(marked) = taken.marked() else {
         return Ok(None);
     };
-    let own = marked.original.as_slice();
-    let original = Vec::from_slice(alloc, own)?;
-    let name = taken.name.as_str();
-    let old = taken.bytes.as_slice();
-    put(alloc, name, old, original)
+    let original = Vec::from_slice(alloc, marked.original.as_slice())?;
+    put(alloc, taken.name.as_str(), taken.bytes.as_slice(), original)
 }
 
 /// A file that gets its original, for a cause. Any file but a prelinked one is its own.
@@ -85,38 +76,12 @@ fn made_original(alloc: Global, taken: &Taken, cause: Skip) -> Result<Made, Allo
     })
 }
 
-/// A program that is prelinked anew.
-fn made_program(alloc: Global, taken: &Taken, program: NewProgram) -> Result<Made, AllocError>
-    ensures { IfOk result (λ made. made ≡ told.made_program taken.now program) }
-{
-    let NewProgram { file, conflicts } = program;
-    Ok(Made {
-        change: put(alloc, taken.name.as_str(), taken.bytes.as_slice(), file)?,
-        state: RowState::Program {
-            current: false,
-            conflicts,
-        },
-        given: true,
-    })
-}
-
-/// A library that is prelinked anew, with its file.
-fn made_file(
-    alloc: Global,
-    taken: &Taken,
-    parts: &NewLibrary,
-    file: Vec<u8>,
-) -> Result<Made, AllocError>
-    ensures { IfOk result (λ made. made
-        ≡ told.made_with taken.now parts.now (Some file.items)) }
+fn renewed(alloc: Global, taken: &Taken, file: Vec<u8>, state: RowState) -> Result<Made, AllocError>
+    ensures { IfOk result (λ made. made ≡ told.renewed taken.now file.items state) }
 {
     Ok(Made {
         change: put(alloc, taken.name.as_str(), taken.bytes.as_slice(), file)?,
-        state: RowState::Library {
-            current: false,
-            slot: parts.slot,
-            stamp: parts.stamp,
-        },
+        state,
         given: true,
     })
 }
@@ -128,15 +93,18 @@ fn made_library(alloc: Global, taken: &Taken, parts: &NewLibrary) -> Result<Made
     ensures { IfOk result (λ made. made ≡ told.made_library taken.now parts.now) }
 {
     match storable_library(alloc, taken, parts, Version::Two)? {
-        None => {
-            let cause = too_large(alloc, taken)?;
-            Ok(made_original(alloc, taken, cause)?)
+        None => Ok(made_original(alloc, taken, too_large(alloc, taken)?)?),
+        Some(file) => {
+            let state = RowState::Library {
+                current: false,
+                slot: parts.slot,
+                stamp: parts.stamp,
+            };
+            Ok(renewed(alloc, taken, file, state)?)
         }
-        Some(file) => Ok(made_file(alloc, taken, parts, file)?),
     }
 }
 
-/// What a run makes of a file, by its outcome.
 fn made_last(alloc: Global, taken: &Taken, outcome: RowOutcome) -> Result<Made, NoMemory>
     requires read { HasItsEntry taken.now }
     requires may { told.MayBe taken.now outcome }
@@ -149,41 +117,35 @@ fn made_last(alloc: Global, taken: &Taken, outcome: RowOutcome) -> Result<Made, 
             given: false,
         }),
         RowOutcome::Original(cause) => Ok(made_original(alloc, taken, cause)?),
-        RowOutcome::Program(program) => Ok(made_program(alloc, taken, program)?),
+        RowOutcome::Program(program) => {
+            let state = RowState::Program {
+                current: false,
+                conflicts: program.conflicts,
+            };
+            Ok(renewed(alloc, taken, program.file, state)?)
+        }
         RowOutcome::Library(parts) => made_library(alloc, taken, &parts),
     }
 }
 
-/// The name of a file that is let go.
 fn name_of(taken: Taken) -> Text
     ensures { result ≡ taken.name }
 {
-    let Taken { name, .. } = taken;
-    name
+    taken.name
 }
 
-/// Adds what a run makes of the file of a name.
-fn add_made(all: MadeFiles, name: Text, made: Made) -> Result<MadeFiles, AllocError>
-    ensures { IfOk result (λ more. more ≡ told.with_made all name made) }
+fn add_made(all: &mut MadeFiles, name: Text, made: Made) -> Result<(), AllocError>
+    ensures { OnOk result (all.new ≡ told.with_made all.old name made) }
 {
-    let MadeFiles {
-        mut rows,
-        mut states,
-        given,
-    } = all;
-    rows.push_some(made.change)?;
-    states.push(ReportRow {
+    all.rows.push_some(made.change)?;
+    all.states.push(ReportRow {
         name,
         state: made.state,
     })?;
-    Ok(MadeFiles {
-        rows,
-        states,
-        given: given || made.given,
-    })
+    all.given = all.given || made.given;
+    Ok(())
 }
 
-/// What a run makes of its files by their outcomes.
 fn all_made(
     alloc: Global,
     files: Rows<Taken>,
@@ -199,18 +161,15 @@ fn all_made(
         states: Rows::new(alloc),
         given: false,
     };
-    let items = files.into_vec();
-    for taken in items {
+    for taken in files.into_vec() {
         if let Some(outcome) = outcomes.next() {
             let made = made_last(alloc, &taken, outcome)?;
-            let name = name_of(taken);
-            all = add_made(all, name, made)?;
+            add_made(&mut all, name_of(taken), made)?;
         }
     }
     Ok(all)
 }
 
-/// The stamp of the cache after a run.
 fn last_of(asked: &Asked<'_>, plan: &RowPlan, made: &MadeFiles) -> u32
     ensures { result ≡ (if made.now.given then plan.now.stamp else asked.now.last) }
 {
@@ -231,11 +190,12 @@ pub fn finish(
 {
     let made = all_made(alloc, files, outcomes)?;
     let last = last_of(asked, &plan, &made);
-    let MadeFiles { rows, states, .. } = made;
-    let RowPlan { slots, .. } = plan;
     Ok(Rewritten {
-        rows,
-        cache: Cache { last, rows: slots },
-        report: Report { rows: states },
+        rows: made.rows,
+        cache: Cache {
+            last,
+            rows: plan.slots,
+        },
+        report: Report { rows: made.states },
     })
 }

@@ -1,10 +1,9 @@
 // The prelinked file of a library.
-ghost use Rattle.std.specs.Prelude.{◌≡◌, IfOk, length, nat_le};
+ghost use Rattle.std.specs.Prelude.{◌≡◌, IfOk};
 ghost use Rattle.std.specs.Option.{option_map};
 ghost use Rattle.pl_cone.specs.Taken.{HasItsEntry};
 ghost use Rattle.pl_rewrite.specs.Libraries as spec;
 ghost use Rattle.pl_rewrite.specs.Rows as rows;
-ghost use Rattle.pl_rewrite.specs.Digests as told_digests;
 ghost use Rattle.pl_rewrite.specs.RowWords as by_rows;
 
 use crate::apart::are_set;
@@ -21,13 +20,10 @@ use std::alloc::Global;
 pub fn new_library(
     alloc: Global,
     numbered: &Numbered<'_>,
-    digests: &[Option<[u8; 32]>],
     row: usize,
     words: OwnWords,
 ) -> Result<Option<NewLibrary>, NoMemory>
-    requires numbered { rows.IsNumbered numbered.now }
     requires row { rows.IsLibraryRow numbered.now row }
-    requires digests { told_digests.HaveDigests numbered.now digests.now }
     requires words { words ≡ by_rows.own_words_at numbered.now row }
     ensures { IfOk result (spec.IsNewIfAny numbered.now row) }
 {
@@ -35,21 +31,14 @@ pub fn new_library(
     if !set {
         return Ok(None);
     }
-    let list = list_of(alloc, numbered, digests, row)?;
+    let list = list_of(alloc, numbered, row)?;
     Ok(Some(NewLibrary {
         slot: numbered.places[row],
         stamp: numbered.stamps[row],
-        digest: digest_at(numbered.files, digests, row),
+        digest: digest_at(numbered, row),
         list,
         words,
     }))
-}
-
-/// Whether a folder stores a file so long.
-fn is_stored(file: &[u8]) -> bool
-    ensures { result ≡ nat_le (length file.now) STORED }
-{
-    file.len() <= STORED
 }
 
 /// The prelinked file of a library of its original and these parts, in a version; None where it is longer than a folder stores.
@@ -79,7 +68,7 @@ pub fn storable_library(
         version,
         &parts.digest,
     )?;
-    if !is_stored(&file) {
+    if file.len() > STORED {
         return Ok(None);
     }
     Ok(Some(file))

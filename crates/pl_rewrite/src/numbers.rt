@@ -24,19 +24,18 @@ pub struct Numbered<'t> {
 
     /// When each file's library was prelinked; 0 for a program.
     pub stamps: &'t [u32],
+
+    /// The SHA-256 of originals, where they are asked for; each is made once.
+    pub digests: &'t [Option<[u8; 32]>],
 }
 
 /// The walk of a file that is worked on.
 #[derive(Drop)]
 pub struct PlacedWalk<'f> {
-    /// Its scope.
     pub walk: WalkScope<'f>,
-
-    /// The places of the members.
     pub places: Places,
 }
 
-/// The places of the members of a walk.
 fn places_of(alloc: Global, places: &[u64], walk: &[u32]) -> Result<Places, AllocError>
     requires { spec.AreInColumn places.now walk.now }
     ensures { IfOk result (λ v. v ≡ spec.places_of places.now walk.now) }

@@ -1,10 +1,8 @@
 // What a run makes of each file.
 ghost use Rattle.std.specs.Prelude.{◌≡◌, ◌<◌, IfOk, None, length};
 ghost use Rattle.pl_rewrite.specs.Outcomes as spec;
-ghost use Rattle.pl_rewrite.specs.Digests as told_digests;
 ghost use Rattle.pl_rewrite.specs.Rows as rows;
 ghost use Rattle.pl_rewrite.specs.RowWords as by_rows;
-ghost use Rattle.pl_rewrite.specs.Contents as contents;
 
 use crate::RowState;
 use crate::library::new_library;
@@ -32,16 +30,10 @@ pub struct NewProgram {
 /// What the prelinked file of a library is made of, beside its original.
 #[derive(Drop)]
 pub struct NewLibrary {
-    /// Its slot.
     pub slot: u64,
-
-    /// Its stamp.
     pub stamp: u32,
 
-    /// The SHA-256 of its original.
     pub digest: [u8; 32],
-
-    /// The rows of the other members of its walk.
     pub list: Rows<ListRow>,
 
     /// The own word of each of its relocations, in their order; none where the file keeps what its linker wrote.
@@ -64,8 +56,6 @@ pub enum RowOutcome {
     Library(NewLibrary),
 }
 
-// ---- files that are not made
-
 /// That the form of a file is too large.
 pub fn too_large(alloc: Global, taken: &Taken) -> Result<Skip, AllocError>
     ensures { IfOk result (λ skip. skip ≡ spec.too_large taken.now) }
@@ -76,7 +66,6 @@ pub fn too_large(alloc: Global, taken: &Taken) -> Result<Skip, AllocError>
     })
 }
 
-/// What is reported of a prelinked file that stays.
 fn current_state(marked: &Marked) -> RowState
     ensures { result ≡ spec.current_state marked.now }
 {
@@ -98,263 +87,10 @@ fn stays(alloc: Global, taken: &Taken) -> Result<RowOutcome, AllocError>
     ensures { IfOk result (spec.KeepsFile taken.now None) }
 {
     match taken.marked() {
-        Some(marked) => {
-            let state = current_state(marked);
-            Ok(RowOutcome::Unchanged(state))
-        }
-        None => {
-            let cause = too_large(alloc, taken)?;
-            Ok(RowOutcome::Original(cause))
-        }
+        Some(marked) => Ok(RowOutcome::Unchanged(current_state(marked))),
+        None => Ok(RowOutcome::Original(too_large(alloc, taken)?)),
     }
 }
-
-// ---- which files are made
-
-/// Whether a row is that of a stale program.
-fn is_stale_program(numbered: &Numbered<'_>, stale: &[bool], row: usize) -> bool
-    requires row { row < length numbered.now.files.now }
-    requires one_each { length stale.now ≡ length numbered.now.files.now }
-    ensures { result ≡ spec.is_stale_program numbered.now stale.now row }
-{
-    let asked = stale[row];
-    if !asked {
-        return false;
-    }
-    let library = numbered.files[row].is_library();
-    !library
-}
-
-/// Whether a row is that of a stale library.
-fn is_stale_library(numbered: &Numbered<'_>, stale: &[bool], row: usize) -> bool
-    requires row { row < length numbered.now.files.now }
-    requires one_each { length stale.now ≡ length numbered.now.files.now }
-    ensures { result ≡ spec.is_stale_library numbered.now stale.now row }
-{
-    let asked = stale[row];
-    if !asked {
-        return false;
-    }
-    numbered.files[row].is_library()
-}
-
-/// The rows of the walk of a row, where that is a stale program's.
-fn held_by<'t>(numbered: &Numbered<'t>, stale: &[bool], row: usize) -> &'t [u32]
-    requires row { row < length numbered.now.files.now }
-    requires one_each { length stale.now ≡ length numbered.now.files.now }
-    ensures { result.now ≡ spec.held_by numbered.now stale.now row }
-{
-    let program = is_stale_program(numbered, stale, row);
-    if !program {
-        return &[];
-    }
-    numbered.walk(row)
-}
-
-/// A flag for each row, set where the walk of a stale program holds it.
-pub fn held_by_programs(
-    alloc: Global,
-    numbered: &Numbered<'_>,
-    stale: &[bool],
-) -> Result<Vec<bool>, AllocError>
-    requires numbered { rows.IsNumbered numbered.now }
-    requires one_each { length stale.now ≡ length numbered.now.files.now }
-    ensures { IfOk result (λ v. spec.AreHeldFlags numbered.now stale.now v.items) }
-{
-    let count = numbered.files.len();
-    let mut held = Vec::from_elem(alloc, false, count)?;
-    for row in 0..count {
-        let walk = held_by(numbered, stale, row);
-        flag_all(&mut held, walk);
-    }
-    Ok(held)
-}
-
-// ---- files that are made
-
-/// What a run makes of the program of a row, whose name is stale.
-fn program_outcome(alloc: Global, work: &Work<'_>, row: usize) -> Result<RowOutcome, NoMemory>
-    requires work { contents.IsWork work.now }
-    requires row { row < length work.now.numbered.now.files.now }
-    requires program { contents.IsProgramRow work.now row }
-    ensures { IfOk result (spec.IsMadeAt work.now.numbered.now row) }
-{
-    let made = program_file(alloc, work, row, Version::Two)?;
-    match made {
-        Some(program) => Ok(RowOutcome::Program(program)),
-        None => {
-            let cause = too_large(alloc, &work.numbered.files[row])?;
-            Ok(RowOutcome::Original(cause))
-        }
-    }
-}
-
-/// What a run makes of the file of a row, if that is a stale program.
-fn program_if(
-    alloc: Global,
-    work: &Work<'_>,
-    stale: &[bool],
-    row: usize,
-) -> Result<Option<RowOutcome>, NoMemory>
-    requires work { contents.IsWork work.now }
-    requires row { row < length work.now.numbered.now.files.now }
-    requires one_each { length stale.now ≡ length work.now.numbered.now.files.now }
-    requires programs { spec.AreProgramRows work.now stale.now }
-    ensures { IfOk result (spec.IsProgramIf work.now.numbered.now stale.now row) }
-{
-    let program = is_stale_program(work.numbered, stale, row);
-    if !program {
-        return Ok(None);
-    }
-    let outcome = program_outcome(alloc, work, row)?;
-    Ok(Some(outcome))
-}
-
-/// What a run makes of all stale programs, by their rows; None of every other row.
-fn program_outcomes(
-    alloc: Global,
-    work: &Work<'_>,
-    stale: &[bool],
-) -> Result<Vec<Option<RowOutcome>>, NoMemory>
-    requires work { contents.IsWork work.now }
-    requires one_each { length stale.now ≡ length work.now.numbered.now.files.now }
-    requires programs { spec.AreProgramRows work.now stale.now }
-    ensures { IfOk result (λ v. spec.AreProgramsMade work.now.numbered.now stale.now v.items) }
-{
-    let mut all = Vec::new(alloc);
-    for row in 0..stale.len() {
-        let outcome = program_if(alloc, work, stale, row)?;
-        all.push(outcome)?;
-    }
-    Ok(all)
-}
-
-/// What a run makes of the library of a row, whose name is stale, with its own words.
-fn library_outcome(
-    alloc: Global,
-    numbered: &Numbered<'_>,
-    digests: &[Option<[u8; 32]>],
-    row: usize,
-    words: OwnWords,
-) -> Result<RowOutcome, NoMemory>
-    requires numbered { rows.IsNumbered numbered.now }
-    requires row { rows.IsLibraryRow numbered.now row }
-    requires digests { told_digests.HaveDigests numbered.now digests.now }
-    requires words { words ≡ by_rows.own_words_at numbered.now row }
-    ensures { IfOk result (spec.IsMadeAt numbered.now row) }
-{
-    let made = new_library(alloc, numbered, digests, row, words)?;
-    match made {
-        Some(library) => Ok(RowOutcome::Library(library)),
-        None => {
-            let cause = too_large(alloc, &numbered.files[row])?;
-            Ok(RowOutcome::Original(cause))
-        }
-    }
-}
-
-/// What a run makes of the file of a row, if that is a stale library.
-fn library_if(
-    alloc: Global,
-    numbered: &Numbered<'_>,
-    digests: &[Option<[u8; 32]>],
-    stale: &[bool],
-    row: usize,
-    words: OwnWords,
-) -> Result<Option<RowOutcome>, NoMemory>
-    requires numbered { rows.IsNumbered numbered.now }
-    requires row { row < length numbered.now.files.now }
-    requires stale { spec.IsStaleColumn numbered.now stale.now }
-    requires digests { told_digests.HaveDigests numbered.now digests.now }
-    requires words { spec.HasWordsIf numbered.now stale.now row words }
-    ensures { IfOk result (spec.IsLibraryIf numbered.now stale.now row) }
-{
-    let library = is_stale_library(numbered, stale, row);
-    if !library {
-        return Ok(None);
-    }
-    let outcome = library_outcome(alloc, numbered, digests, row, words)?;
-    Ok(Some(outcome))
-}
-
-/// What a run makes of the stale libraries, by their rows, and of the stale programs, which is handed in; None of every other row.
-fn with_libraries(
-    alloc: Global,
-    numbered: &Numbered<'_>,
-    digests: &[Option<[u8; 32]>],
-    stale: &[bool],
-    row_words: Vec<RowWords>,
-    programs: Vec<Option<RowOutcome>>,
-) -> Result<Vec<Option<RowOutcome>>, NoMemory>
-    requires numbered { rows.IsNumbered numbered.now }
-    requires stale { spec.IsStaleColumn numbered.now stale.now }
-    requires digests { told_digests.HaveDigests numbered.now digests.now }
-    requires row_words { spec.HaveWords numbered.now stale.now row_words.items }
-    requires programs { spec.AreProgramsMade numbered.now stale.now programs.items }
-    ensures { IfOk result (λ v. spec.AreMade numbered.now stale.now v.items) }
-{
-    let mut programs = programs.into_iter();
-    let mut all = Vec::new(alloc);
-    for one in row_words {
-        let RowWords { words, .. } = one;
-        let row = all.len();
-        let library = library_if(alloc, numbered, digests, stale, row, words)?;
-        let next = programs.next();
-        let program = next.flatten();
-        let made = library.or(program);
-        all.push(made)?;
-    }
-    Ok(all)
-}
-
-/// What is told of the rows of the files that are stale, and of the members of their walks.
-fn words_told(
-    alloc: Global,
-    numbered: &Numbered<'_>,
-    links: Rows<Link>,
-    stale: &[bool],
-) -> Result<Vec<RowWords>, NoMemory>
-    requires numbered { rows.IsNumbered numbered.now }
-    requires stale { spec.IsStaleColumn numbered.now stale.now }
-    requires links { by_rows.AreLinks numbered.now (spec.is_used numbered.now stale.now) links }
-    ensures { IfOk result (λ v. spec.AreToldRows numbered.now stale.now v.items) }
-{
-    let flags = held_by_programs(alloc, numbered, stale)?;
-    let held = flags.as_slice();
-    let needed = Needed {
-        made: &*stale,
-        held,
-    };
-    let row_words = words_of_rows(alloc, numbered, links, &needed)?;
-    Ok(row_words)
-}
-
-/// What a run makes of the stale files, by their rows; None of the others.
-fn made_of(
-    alloc: Global,
-    numbered: &Numbered<'_>,
-    links: Rows<Link>,
-    stale: &[bool],
-) -> Result<Vec<Option<RowOutcome>>, NoMemory>
-    requires numbered { rows.IsNumbered numbered.now }
-    requires stale { spec.IsStaleColumn numbered.now stale.now }
-    requires links { by_rows.AreLinks numbered.now (spec.is_used numbered.now stale.now) links }
-    ensures { IfOk result (λ v. spec.AreMade numbered.now stale.now v.items) }
-{
-    let row_words = words_told(alloc, numbered, links, stale)?;
-    let made = digests_of(alloc, numbered.files, stale)?;
-    let digests = made.as_slice();
-    let told = row_words.as_slice();
-    let work = Work {
-        numbered: &*numbered,
-        row_words: told,
-        digests,
-    };
-    let programs = program_outcomes(alloc, &work, stale)?;
-    with_libraries(alloc, numbered, digests, stale, row_words, programs)
-}
-
-// ---- all files
 
 /// What is made of a file: what was made of it; else it gets its original for a cause, or stays.
 fn outcome_for(
@@ -374,6 +110,154 @@ fn outcome_for(
     }
 }
 
+fn is_stale_program(numbered: &Numbered<'_>, stale: &[bool], row: usize) -> bool
+    requires row { row < length numbered.now.files.now }
+    requires one_each { length stale.now ≡ length numbered.now.files.now }
+    ensures { result ≡ spec.is_stale_program numbered.now stale.now row }
+{
+    if !stale[row] {
+        return false;
+    }
+    !numbered.files[row].is_library()
+}
+
+fn is_stale_library(numbered: &Numbered<'_>, stale: &[bool], row: usize) -> bool
+    requires row { row < length numbered.now.files.now }
+    requires one_each { length stale.now ≡ length numbered.now.files.now }
+    ensures { result ≡ spec.is_stale_library numbered.now stale.now row }
+{
+    if !stale[row] {
+        return false;
+    }
+    numbered.files[row].is_library()
+}
+
+/// A flag for each row, set where the walk of a stale program holds it.
+pub fn held_by_programs(
+    alloc: Global,
+    numbered: &Numbered<'_>,
+    stale: &[bool],
+) -> Result<Vec<bool>, AllocError>
+    requires numbered { rows.IsNumbered numbered.now }
+    requires one_each { length stale.now ≡ length numbered.now.files.now }
+    ensures { IfOk result (λ v. spec.AreHeldFlags numbered.now stale.now v.items) }
+{
+    let count = numbered.files.len();
+    let mut held = Vec::from_elem(alloc, false, count)?;
+    for row in 0..count {
+        if is_stale_program(numbered, stale, row) {
+            flag_all(&mut held, numbered.walk(row));
+        }
+    }
+    Ok(held)
+}
+
+fn program_if(
+    alloc: Global,
+    work: &Work<'_>,
+    stale: &[bool],
+    row: usize,
+) -> Result<Option<RowOutcome>, NoMemory>
+    requires programs { spec.CanMakePrograms work.now stale.now }
+    requires row { row < length work.now.numbered.now.files.now }
+    ensures { IfOk result (spec.IsProgramIf work.now.numbered.now stale.now row) }
+{
+    if !is_stale_program(work.numbered, stale, row) {
+        return Ok(None);
+    }
+    let made = program_file(alloc, work, row, Version::Two)?;
+    match made {
+        Some(program) => Ok(Some(RowOutcome::Program(program))),
+        None => Ok(Some(RowOutcome::Original(too_large(alloc, &work.numbered.files[row])?))),
+    }
+}
+
+/// What a run makes of all stale programs, by their rows; None of every other row.
+fn program_outcomes(
+    alloc: Global,
+    work: &Work<'_>,
+    stale: &[bool],
+) -> Result<Vec<Option<RowOutcome>>, NoMemory>
+    requires { spec.CanMakePrograms work.now stale.now }
+    ensures { IfOk result (λ v. spec.AreProgramsMade work.now.numbered.now stale.now v.items) }
+{
+    let mut all = Vec::new(alloc);
+    for row in 0..stale.len() {
+        all.push(program_if(alloc, work, stale, row)?)?;
+    }
+    Ok(all)
+}
+
+fn library_if(
+    alloc: Global,
+    numbered: &Numbered<'_>,
+    stale: &[bool],
+    row: usize,
+    words: OwnWords,
+) -> Result<Option<RowOutcome>, NoMemory>
+    requires run { spec.IsStaleRun numbered.now stale.now }
+    requires row { row < length numbered.now.files.now }
+    requires words { spec.HasWordsIf numbered.now stale.now row words }
+    ensures { IfOk result (spec.IsLibraryIf numbered.now stale.now row) }
+{
+    if !is_stale_library(numbered, stale, row) {
+        return Ok(None);
+    }
+    let made = new_library(alloc, numbered, row, words)?;
+    match made {
+        Some(library) => Ok(Some(RowOutcome::Library(library))),
+        None => Ok(Some(RowOutcome::Original(too_large(alloc, &numbered.files[row])?))),
+    }
+}
+
+/// What a run makes of the stale libraries, by their rows, and of the stale programs, which is handed in; None of every other row.
+fn with_libraries(
+    alloc: Global,
+    numbered: &Numbered<'_>,
+    stale: &[bool],
+    row_words: Vec<RowWords>,
+    programs: Vec<Option<RowOutcome>>,
+) -> Result<Vec<Option<RowOutcome>>, NoMemory>
+    requires run { spec.IsStaleRun numbered.now stale.now }
+    requires row_words { spec.HaveWords numbered.now stale.now row_words.items }
+    requires programs { spec.AreProgramsMade numbered.now stale.now programs.items }
+    ensures { IfOk result (λ v. spec.AreMade numbered.now stale.now v.items) }
+{
+    let mut programs = programs.into_iter();
+    let mut all = Vec::new(alloc);
+    for one in row_words {
+        let library = library_if(alloc, numbered, stale, all.len(), one.words)?;
+        let program = programs.next().flatten();
+        all.push(library.or(program))?;
+    }
+    Ok(all)
+}
+
+/// What a run makes of the stale files, by their rows; None of the others.
+fn made_of(
+    alloc: Global,
+    numbered: &Numbered<'_>,
+    links: Rows<Link>,
+    stale: &[bool],
+) -> Result<Vec<Option<RowOutcome>>, NoMemory>
+    requires run { spec.IsStaleRun numbered.now stale.now }
+    requires links { by_rows.AreLinks numbered.now (spec.is_used numbered.now stale.now) links }
+    ensures { IfOk result (λ v. spec.AreMade numbered.now stale.now v.items) }
+{
+    let held = held_by_programs(alloc, numbered, stale)?;
+    let needed = Needed {
+        made: &*stale,
+        held: held.as_slice(),
+    };
+    let row_words = words_of_rows(alloc, numbered, links, &needed)?;
+    let work = Work {
+        numbered: &*numbered,
+        row_words: row_words.as_slice(),
+    };
+    let programs = program_outcomes(alloc, &work, stale)?;
+    with_libraries(alloc, numbered, stale, row_words, programs)
+}
+
 /// What is made of each file, by the causes of all rows and what was made of some.
 fn all_outcomes(
     alloc: Global,
@@ -387,13 +271,10 @@ fn all_outcomes(
 {
     let mut made = made.into_iter();
     let mut all = Vec::new(alloc);
-    let items = causes.into_vec();
-    for cause in items {
+    for cause in causes.into_vec() {
         let row = all.len();
-        let next = made.next();
-        let one = next.flatten();
-        let outcome = outcome_for(alloc, &files[row], cause, one)?;
-        all.push(outcome)?;
+        let one = made.next().flatten();
+        all.push(outcome_for(alloc, &files[row], cause, one)?)?;
     }
     Ok(all)
 }
@@ -407,6 +288,8 @@ pub fn outcomes(
     requires { spec.IsPlannedTable table plan.now }
     ensures { IfOk result (λ v. spec.AreOutcomes table.entry plan.now v.items) }
 {
+    let stale = plan.stale.as_slice();
+    let digests = digests_of(alloc, table.files, stale)?;
     let RunTable {
         files,
         walks,
@@ -414,16 +297,13 @@ pub fn outcomes(
         links,
         causes,
     } = table;
-    let rows = walks.as_slice();
-    let places = plan.places.as_slice();
-    let stamps = plan.stamps.as_slice();
-    let stale = plan.stale.as_slice();
     let numbered = Numbered {
         files,
-        walks: rows,
+        walks: walks.as_slice(),
         index: &index,
-        places,
-        stamps,
+        places: plan.places.as_slice(),
+        stamps: plan.stamps.as_slice(),
+        digests: digests.as_slice(),
     };
     let made = made_of(alloc, &numbered, links, stale)?;
     all_outcomes(alloc, files, causes, made)

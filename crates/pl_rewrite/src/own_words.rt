@@ -31,29 +31,18 @@ fn word_by(word: u64, given: bool) -> Option<u64>
     if given { Some(word) } else { None }
 }
 
-/// The words, with 0 where there is none.
 fn numbers_of(alloc: Global, rows: &[Option<u64>]) -> Result<Vec<u64>, AllocError>
     ensures { IfOk result (λ v. v.items ≡ spec.numbers_of rows.now) }
 {
-    let mut numbers = Vec::with_capacity(alloc, rows.len())?;
-    for row in rows {
-        numbers.push(row.unwrap_or(0))?;
-    }
-    Ok(numbers)
+    rows.iter().map(|row| row.unwrap_or(0)).collect(alloc)
 }
 
-/// Whether there is a word, of each.
 fn givens_of(alloc: Global, rows: &[Option<u64>]) -> Result<Vec<bool>, AllocError>
     ensures { IfOk result (λ v. v.items ≡ spec.givens_of rows.now) }
 {
-    let mut givens = Vec::with_capacity(alloc, rows.len())?;
-    for row in rows {
-        givens.push(row.is_some())?;
-    }
-    Ok(givens)
+    rows.iter().map(|row| row.is_some()).collect(alloc)
 }
 
-/// The words, of numbers and whether there is one.
 #[tactic(auto, unfolding(crate::specs::Words::words_by))]
 fn words_from(alloc: Global, words: &[u64], given: &[bool]) -> Result<Vec<Option<u64>>, AllocError>
     ensures { IfOk result (λ v. v.items ≡ spec.words_by words.now given.now) }

@@ -1,7 +1,6 @@
 // The prelinked file of a program.
-ghost use Rattle.std.specs.Prelude.{◌≡◌, ◌<◌, true, IfOk, length};
+ghost use Rattle.std.specs.Prelude.{IfOk};
 ghost use Rattle.pl_rewrite.specs.Rows as spec;
-ghost use Rattle.pl_conflict.specs.Prelinked.{are_set};
 ghost use Rattle.pl_rewrite.specs.Contents as contents;
 ghost use Rattle.pl_rewrite.specs.Fills.{AreFirstFills};
 
@@ -20,15 +19,13 @@ use pl_tls::{Module, TlsFault};
 use pl_value::OrdinaryFault;
 use std::alloc::Global;
 
-/// What the files of programs are made of: the files with their numbers, what their relocations find and hold, and the digests of originals, by rows.
+/// What the files of programs are made of: the files with their numbers, and what their relocations find and hold, by rows.
 #[derive(Clone, Copy)]
 pub struct Work<'t> {
     pub numbered: &'t Numbered<'t>,
     pub row_words: &'t [RowWords],
-    pub digests: &'t [Option<[u8; 32]>],
 }
 
-/// The bytes at the program's places, and its conflict rows.
 #[derive(Drop)]
 struct Contents {
     fills: Vec<Fill>,
@@ -42,34 +39,21 @@ fn contents_of(
     row: usize,
     linking: &WalkLinking<'_, '_>,
 ) -> Result<Contents, OrdinaryFault>
-    requires work { contents.IsWork work.now }
-    requires program { contents.IsProgramRow work.now row }
-    requires set { are_set (spec.firms_of work.now.numbered.now row) ≡ true }
+    requires program { contents.IsSetProgram work.now row }
     requires linking { contents.IsLinkingOfRow work.now row linking.now }
     ensures { contents.IsContents work.now row linking.now result }
 {
     let walk = work.numbered.walk(row);
-    let found = work.row_words[row].found.as_slice();
-    let meanings = own_meanings(alloc, linking, found)?;
+    let meanings = own_meanings(alloc, linking, work.row_words[row].found.as_slice())?;
     let own = meanings.as_slice();
     let made = remaining_rows(alloc, linking, walk, work.row_words, own)?;
     let RemainingRows { rows, near } = made;
-    let object = linking.scope.object(0);
-    let relocs = object.relocations.as_slice();
+    let relocs = linking.scope.object(0).relocations.as_slice();
     let fills = program_fills(alloc, work.numbered, walk, &near, relocs, own)?;
     Ok(Contents { fills, rows })
 }
 
-/// The bytes of a file with no room behind them, since the new files of programs are kept until all are made.
-fn trimmed(file: Vec<u8>) -> Vec<u8>
-    ensures { result.items ≡ file.items }
-{
-    let mut file = file;
-    file.shrink_to_fit();
-    file
-}
-
-/// The form of the program of a row with these contents; None where it is longer than a folder stores.
+/// The form of the program of a row with these contents, with no room behind it, since the new files of programs are kept until all are made; None where it is longer than a folder stores.
 fn form_of(
     alloc: Global,
     work: &Work<'_>,
@@ -77,40 +61,35 @@ fn form_of(
     version: Version,
     made: Contents,
 ) -> Result<Option<NewProgram>, NoMemory>
-    requires work { contents.IsWork work.now }
-    requires program { contents.IsProgramRow work.now row }
-    requires set { are_set (spec.firms_of work.now.numbered.now row) ≡ true }
+    requires program { contents.IsSetProgram work.now row }
     requires fills { AreFirstFills (spec.firms_of work.now.numbered.now row) made.fills.items }
     ensures { IfOk result (contents.IsProgramForm work.now row version made) }
 {
     let numbered = work.numbered;
-    let files = numbered.files;
-    let taken = &files[row];
+    let taken = &numbered.files[row];
     let Some(object) = taken.object() else {
         return Ok(None);
     };
-    let list = list_of(alloc, numbered, work.digests, row)?;
-    let digest = digest_at(files, work.digests, row);
+    let list = list_of(alloc, numbered, row)?;
+    let digest = digest_at(numbered, row);
     let original = taken.original();
     let listed = list.as_slice();
-    let Contents {
-        fills,
-        rows: conflicts,
-    } = made;
-    let rows = conflicts.as_slice();
+    let rows = made.rows.as_slice();
     match form_program_with(
-        alloc, original, object, listed, fills, rows, version, &digest,
+        alloc, original, object, listed, made.fills, rows, version, &digest,
     ) {
-        Ok(file) => Ok(Some(NewProgram {
-            file: trimmed(file),
-            conflicts: rows.len() as u64,
-        })),
+        Ok(mut file) => {
+            file.shrink_to_fit();
+            Ok(Some(NewProgram {
+                file,
+                conflicts: rows.len() as u64,
+            }))
+        }
         Err(FormFault::TooLarge) => Ok(None),
         Err(_) => Err(NoMemory),
     }
 }
 
-/// The file of the program of a row with these modules of thread-local storage.
 fn file_with(
     alloc: Global,
     work: &Work<'_>,
@@ -119,9 +98,7 @@ fn file_with(
     placed: &PlacedWalk<'_>,
     modules: &[Module],
 ) -> Result<Option<NewProgram>, NoMemory>
-    requires work { contents.IsWork work.now }
-    requires program { contents.IsProgramRow work.now row }
-    requires set { are_set (spec.firms_of work.now.numbered.now row) ≡ true }
+    requires program { contents.IsSetProgram work.now row }
     requires placed { spec.IsPlacedWalk work.now.numbered.now row placed.now }
     ensures { IfOk result (contents.IsProgramWith work.now row version modules.now) }
 {
@@ -139,9 +116,7 @@ fn file_with(
     }
 }
 
-/// The prelinked file of the program of a row that may be prelinked, in a version, and how many conflict rows it has; None where the members of its walk cannot be prelinked together, thread-local storage is too large, a relocation has no value, or the file is longer than a folder stores.
-///
-/// Each own relocation has been looked up; each remaining one of a library, and each whose place is near what the program copies, is looked up here. What is held is told of all libraries of the walk.
+/// The prelinked file of the program of a row that may be prelinked, in a version, and how many conflict rows it has; None where the members of its walk cannot be prelinked together, thread-local storage is too large, a relocation has no value, or the file is longer than a folder stores. Each own relocation has been looked up; each remaining one of a library, and each whose place is near what the program copies, is looked up here. What is held is told of all libraries of the walk.
 pub fn program_file(
     alloc: Global,
     work: &Work<'_>,
@@ -149,7 +124,6 @@ pub fn program_file(
     version: Version,
 ) -> Result<Option<NewProgram>, NoMemory>
     requires work { contents.IsWork work.now }
-    requires row { row < length work.now.numbered.now.files.now }
     requires program { contents.IsProgramRow work.now row }
     ensures { IfOk result (contents.IsNewProgram work.now.numbered.now row version) }
 {

@@ -8,7 +8,6 @@ use pl_value::{Meaning, Word};
 use std::alloc::{AllocError, Global};
 use std::marker::Model;
 
-/// The addresses from which a relocation copies, if it does.
 fn range_of(word: &Word) -> Option<Range>
     ensures { result ≡ spec.range_of word.now }
 {
@@ -32,7 +31,6 @@ fn given_ranges(alloc: Global, meanings: &[Meaning]) -> Result<Vec<Range>, Alloc
         .collect(alloc)
 }
 
-/// Whether a word from an address on has an address of a range.
 fn touches(range: &Range, start: u64) -> bool
     ensures { result ≡ spec.touches start range.now }
 {

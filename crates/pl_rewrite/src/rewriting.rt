@@ -6,10 +6,10 @@ ghost use Rattle.pl_rewrite.specs.Rewriting as spec;
 
 use crate::Report;
 use crate::finishing::finish;
-use crate::outcomes::{RowOutcome, outcomes};
+use crate::outcomes::outcomes;
 use pl_base::Rows;
 use pl_cache::Cache;
-use pl_cone::{Asked, PlanningFault, RowPlan, RunTable, Taken, plan_of};
+use pl_cone::{Asked, PlanningFault, RunTable, Taken, plan_of};
 use pl_journal::Change;
 use std::alloc::Global;
 
@@ -26,33 +26,13 @@ pub struct Rewritten {
     pub report: Report,
 }
 
-/// What is planned of files, and what is made of each.
-#[derive(Drop)]
-struct Decided {
-    plan: RowPlan,
-    outcomes: Vec<RowOutcome>,
-}
-
-/// What is planned of the files of a folder, and what is made of each. The table is let go.
-fn decide(alloc: Global, files: &[Taken], asked: &Asked<'_>) -> Result<Decided, PlanningFault>
-    requires { AreTaken asked.now.region files.now }
-    ensures { spec.Decides files.now asked.now result }
-{
-    let table = RunTable::of(alloc, files)?;
-    let plan = plan_of(alloc, &table, asked)?;
-    let outcomes = outcomes(alloc, table, &plan)?;
-    Ok(Decided { plan, outcomes })
-}
-
 /// What a run that prelinks everything makes of the files of a folder, ascending by name; the first cause why it has no plan is NoSlot, then StampsSpent.
 ///
 /// - A current name stays, and has no row. Each other name that may be prelinked is: at the planned slots, with the old stamps of current libraries and the run's stamp for the others, in version 2. Any other name gets its original, and so does one whose form would be too large. A file whose bytes would not change has no row.
 /// - The cache has the planned slots; its stamp is the run's where a name got it, and else stays.
 /// - The report has a row for each name.
 ///
-/// `take_file` of pl_cone gave the files under the region that is asked for, and no name stands twice. The rows of the cache have no limit here.
-///
-/// The files are taken over. Once everything is decided the files of libraries are made, and each file is let go once its new one is there.
+/// `take_file` of pl_cone gave the files under the region that is asked for, and no name stands twice. The rows of the cache have no limit here. The files are taken over. Once everything is decided the table of the run is let go, the files of libraries are made, and each file is let go once its new one is there.
 #[tactic(auto, unfolding(crate::specs::Rewriting::rewrite))]
 pub fn rewrite(
     alloc: Global,
@@ -62,9 +42,8 @@ pub fn rewrite(
     requires { AreTaken asked.now.region files }
     ensures { Answers is_memory result (spec.rewrite (files_in files) (names_of files) asked.now) }
 {
-    let lent = files.as_slice();
-    let decided = decide(alloc, lent, asked)?;
-    let Decided { plan, outcomes } = decided;
-    let rewritten = finish(alloc, files, asked, plan, outcomes)?;
-    Ok(rewritten)
+    let table = RunTable::of(alloc, files.as_slice())?;
+    let plan = plan_of(alloc, &table, asked)?;
+    let outcomes = outcomes(alloc, table, &plan)?;
+    Ok(finish(alloc, files, asked, plan, outcomes)?)
 }

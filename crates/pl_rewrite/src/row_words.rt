@@ -1,6 +1,6 @@
 // What the relocations of files give, once the slots are known.
-ghost use Rattle.std.specs.Prelude.{◌≡◌, ◌<◌, true, IfOk, length};
-ghost use Rattle.std.specs.List.{All, AllZip};
+ghost use Rattle.std.specs.Prelude.{◌≡◌, ◌<◌, [], ◌∷◌, true, IfOk, length};
+ghost use Rattle.std.specs.List.{All};
 ghost use Rattle.pl_image.specs.Image.{AreLoaded};
 ghost use Rattle.pl_cone.specs.Table.{AreBelow};
 ghost use Rattle.pl_rewrite.specs.Flags as flags_by;
@@ -22,7 +22,6 @@ use std::alloc::{AllocError, Global};
 /// A remaining relocation of a library, and the word that the library's prelinked file holds at its place.
 #[derive(Clone, Copy)]
 pub struct HeldWord {
-    /// The relocation's index.
     pub index: u32,
     pub word: u64,
 }
@@ -57,42 +56,25 @@ pub fn flag_all(flags: &mut [bool], rows: &[u32])
     }
 }
 
-/// A flag for each of so many rows, set for these.
-pub fn flags_of(alloc: Global, count: usize, rows: &[u32]) -> Result<Vec<bool>, AllocError>
-    requires { AreBelow count rows.now }
-    ensures { IfOk result (λ v. flags_by.AreFlagsOf count rows.now v.items) }
+/// A flag for each of so many rows, set for this one.
+pub fn flag_of(alloc: Global, count: usize, row: usize) -> Result<Vec<bool>, AllocError>
+    ensures { IfOk result (λ v. flags_by.AreFlagsOf count (row ∷ []) v.items) }
 {
-    let mut flags = Vec::from_elem(alloc, false, count)?;
-    flag_all(&mut flags, rows);
+    let mut flags = Vec::with_capacity(alloc, count)?;
+    for index in 0..count {
+        flags.push(row == index)?;
+    }
     Ok(flags)
 }
 
-/// Nothing is asked.
-fn nothing(alloc: Global) -> RowWords
-    ensures { by_rows.IsNothing result }
+fn only_found(alloc: Global, found: Rows<Option<Found>>) -> RowWords
+    ensures { result.found ≡ found }
 {
     RowWords {
         words: OwnWords::none(alloc),
         held: Rows::new(alloc),
-        found: Rows::new(alloc),
+        found,
     }
-}
-
-/// The own words of the library of a row, by what its relocations find in its own walk.
-fn own_words_at(
-    alloc: Global,
-    numbered: &Numbered<'_>,
-    row: usize,
-    found: &[Option<Found>],
-) -> Result<Rows<Option<u64>>, NoMemory>
-    requires numbered { spec.IsNumbered numbered.now }
-    requires walk { spec.IsWalkRow numbered.now row }
-    requires found { by_rows.FindsRow numbered.now row found.now }
-    ensures { IfOk result (λ words. words ≡ by_rows.own_words_at numbered.now row) }
-{
-    let placed = numbered.placed(alloc, row)?;
-    let words = own_words_by(alloc, &placed.walk.scope, &placed.places, found)?;
-    Ok(words)
 }
 
 /// The word that the prelinked file of a library holds at the place of a relocation: its own word, or what the original holds.
@@ -112,7 +94,6 @@ fn held_word(
     }
 }
 
-/// The words that the prelinked file of a library holds at the places of these relocations, in their order.
 fn held_words(
     alloc: Global,
     original: &[LoadedObject<'_>],
@@ -124,47 +105,20 @@ fn held_words(
     requires one { 0 < length original.now }
     requires words { length words.now ≡ length relocs.now }
     requires remaining { All (λ i. i < length relocs.now) remaining.now }
-    ensures { IfOk result (AllZip (held_by.IsHeldIn original.now relocs.now words.now)
-        remaining.now) }
+    ensures { IfOk result (held_by.AreHeldIn original.now relocs.now words.now remaining.now) }
 {
     let mut all = Rows::new(alloc);
     for index in remaining {
-        let at = *index as usize;
+        let index = *index;
+        let at = index as usize;
         let word = held_word(alloc, original, &relocs[at], words[at])?;
-        all.push(HeldWord {
-            index: *index,
-            word,
-        })?;
+        all.push(HeldWord { index, word })?;
     }
     Ok(all)
 }
 
-/// The words that the prelinked file of the library of a row holds at the places of its remaining relocations, where `words` are its own words. The file need not be there.
+/// The words that the prelinked file of the library of a row holds at the places of its remaining relocations, if they are asked for; else none. `words` are its own words. The file need not be there.
 fn held_of(
-    alloc: Global,
-    numbered: &Numbered<'_>,
-    row: usize,
-    words: &[Option<u64>],
-    remaining: &[u32],
-) -> Result<Rows<HeldWord>, AllocError>
-    requires numbered { spec.IsNumbered numbered.now }
-    requires row { spec.IsLibraryRow numbered.now row }
-    requires words { words.now ≡ by_rows.own_words_at numbered.now row }
-    requires remaining { by_rows.AreOfRow numbered.now row remaining.now }
-    ensures { IfOk result (by_rows.AreHeldAt numbered.now row remaining.now) }
-{
-    let taken = &numbered.files[row];
-    let Some(object) = taken.object() else {
-        return Ok(Rows::new(alloc));
-    };
-    let relocs = object.relocations.as_slice();
-    let loaded = load_object(alloc, object, taken.original(), 0)?;
-    let held = held_words(alloc, &[loaded], relocs, words, remaining)?;
-    Ok(held)
-}
-
-/// The words that the file of the library of a row holds, as `held_of` gives them, if they are asked for; else none.
-fn held_if(
     alloc: Global,
     numbered: &Numbered<'_>,
     row: usize,
@@ -172,29 +126,30 @@ fn held_if(
     remaining: &[u32],
     asked: bool,
 ) -> Result<Rows<HeldWord>, AllocError>
-    requires numbered { spec.IsNumbered numbered.now }
     requires row { spec.IsLibraryRow numbered.now row }
     requires words { words.now ≡ by_rows.own_words_at numbered.now row }
     requires remaining { by_rows.AreOfRow numbered.now row remaining.now }
-    ensures { IfOk result (λ held. asked ≡ true
-        → by_rows.AreHeldAt numbered.now row remaining.now held) }
+    ensures { IfOk result (by_rows.AreHeldIf asked numbered.now row remaining.now) }
 {
     if !asked {
         return Ok(Rows::new(alloc));
     }
-    let held = held_of(alloc, numbered, row, words, remaining)?;
-    Ok(held)
+    let taken = &numbered.files[row];
+    let Some(object) = taken.object() else {
+        return Ok(Rows::new(alloc));
+    };
+    let relocs = object.relocations.as_slice();
+    let loaded = load_object(alloc, object, taken.original(), 0)?;
+    held_words(alloc, &[loaded], relocs, words, remaining)
 }
 
-/// These words, if they are asked for.
 fn kept_if(alloc: Global, words: &[Option<u64>], asked: bool) -> Result<OwnWords, AllocError>
     ensures { IfOk result (λ w. asked ≡ true → w ≡ words.now) }
 {
     if !asked {
         return Ok(OwnWords::none(alloc));
     }
-    let kept = OwnWords::of(alloc, words)?;
-    Ok(kept)
+    OwnWords::of(alloc, words)
 }
 
 /// Whether anything is asked of a row.
@@ -210,7 +165,6 @@ pub fn is_needed(needed: &Needed<'_>, row: usize) -> bool
     needed.held[row]
 }
 
-/// What is asked of a library.
 fn library_row_words(
     alloc: Global,
     numbered: &Numbered<'_>,
@@ -218,18 +172,18 @@ fn library_row_words(
     link: &Link,
     needed: &Needed<'_>,
 ) -> Result<RowWords, NoMemory>
-    requires numbered { spec.IsNumbered numbered.now }
-    requires row { row < length numbered.now.files.now }
-    requires library { spec.is_library_row numbered.now row ≡ true }
+    requires row { spec.IsLibraryRow numbered.now row }
     requires needed { by_rows.IsNeeded numbered.now needed.now }
     requires link { by_rows.IsLinkAt numbered.now row link.now }
     ensures { IfOk result (by_rows.AreRowWordsBy numbered.now row needed.now link.now) }
 {
-    let words = own_words_at(alloc, numbered, row, link.found.as_slice())?;
+    let placed = numbered.placed(alloc, row)?;
+    let found = link.found.as_slice();
+    let words = own_words_by(alloc, &placed.walk.scope, &placed.places, found)?;
     let own = words.as_slice();
     let remaining = link.remaining.as_slice();
     let kept = kept_if(alloc, own, needed.made[row])?;
-    let held = held_if(alloc, numbered, row, own, remaining, needed.held[row])?;
+    let held = held_of(alloc, numbered, row, own, remaining, needed.held[row])?;
     Ok(RowWords {
         words: kept,
         held,
@@ -237,7 +191,6 @@ fn library_row_words(
     })
 }
 
-/// What is asked of a file, by what its relocations find.
 fn row_words_of(
     alloc: Global,
     numbered: &Numbered<'_>,
@@ -248,21 +201,16 @@ fn row_words_of(
     requires numbered { spec.IsNumbered numbered.now }
     requires row { row < length numbered.now.files.now }
     requires needed { by_rows.IsNeeded numbered.now needed.now }
-    requires link { by_rows.is_needed needed.now row ≡ true
-        → by_rows.IsLinkAt numbered.now row link }
+    requires link { by_rows.IsLinkIf numbered.now needed.now row link }
     ensures { IfOk result (by_rows.AreRowWordsBy numbered.now row needed.now link) }
 {
-    if numbered.files[row].is_library() {
-        if !is_needed(needed, row) {
-            return Ok(nothing(alloc));
-        }
-        return library_row_words(alloc, numbered, row, &link, needed);
+    if !numbered.files[row].is_library() {
+        return Ok(only_found(alloc, link.found));
     }
-    Ok(RowWords {
-        words: OwnWords::none(alloc),
-        held: Rows::new(alloc),
-        found: link.found,
-    })
+    if !is_needed(needed, row) {
+        return Ok(only_found(alloc, Rows::new(alloc)));
+    }
+    library_row_words(alloc, numbered, row, &link, needed)
 }
 
 /// What is asked of all files, in their order. What the relocations of a library find is let go once its words are there.
@@ -278,10 +226,8 @@ pub fn words_of_rows(
     ensures { IfOk result (λ v. by_rows.AreRowWords numbered.now needed.now v.items) }
 {
     let mut all = Vec::new(alloc);
-    let items = links.into_vec();
-    for link in items {
-        let row = all.len();
-        let one = row_words_of(alloc, numbered, row, link, needed)?;
+    for link in links.into_vec() {
+        let one = row_words_of(alloc, numbered, all.len(), link, needed)?;
         all.push(one)?;
     }
     Ok(all)

@@ -8,8 +8,8 @@ use Rattle.pl_rewrite.proofs.conflict.add_near.Goals as goal
 pub loop-reloc-init : goal.loop-reloc-init
 loop-reloc-init c = near_begin c.args.linking.now c.args.member c.args.relocs.now c.args.ranges.now c.args.near.now.items
 
-pub meaning_of-requires-clause-reference : goal.meaning_of-requires-clause-reference
-meaning_of-requires-clause-reference c = c.requires.references c.loop-reloc.reloc-index _ c.loop-reloc-test.true
+pub gives-requires-clause-reference : goal.gives-requires-clause-reference
+gives-requires-clause-reference c = c.requires.references c.loop-reloc.reloc-index _ c.loop-reloc-test.true
 
 pub returns-in_err-meaning-clause-refused : goal.returns-in_err-meaning-clause-refused
 returns-in_err-meaning-clause-refused c =

@@ -1,4 +1,4 @@
-use Rattle.std.proofs.Common.{◌<◌, ◌≤◌, Vec, Global, sym, ap, ◌∙◌}
+use Rattle.std.proofs.Common.{Vec, Global, sym, ap, ◌∙◌}
 use Rattle.std.proofs.lemmas.List.{append-nil}
 use Rattle.std.proofs.lemmas.Result.{err_from_is_err_and}
 use Rattle.pl_lists.specs.declared.conflict_row.ConflictRow.{ConflictRow}
@@ -12,8 +12,8 @@ loop-one-init c = rowed_begin c.args.linking.now c.args.member c.args.relocs.now
 pub bounds-relocs-one : goal.bounds-relocs-one
 bounds-relocs-one c = told_below c.args.linking.now c.args.member c.args.relocs.now c.args.held.now c.loop-one.one-index _ c.args.rows.now.items c.loop-one.rows.items c.loop-one-test.true c.loop-one.invariant
 
-pub meaning_of-requires-clause-reference : goal.meaning_of-requires-clause-reference
-meaning_of-requires-clause-reference c =
+pub gives-requires-clause-reference : goal.gives-requires-clause-reference
+gives-requires-clause-reference c =
     c.requires.references _ _ (told_below c.args.linking.now c.args.member c.args.relocs.now c.args.held.now c.loop-one.one-index _ c.args.rows.now.items c.loop-one.rows.items c.loop-one-test.true c.loop-one.invariant)
 
 pub returns-in_err-meaning-clause-refused : goal.returns-in_err-meaning-clause-refused

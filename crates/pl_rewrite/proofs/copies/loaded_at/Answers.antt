@@ -18,7 +18,7 @@ load_object-requires c =
 
 pub returns-clause-value : goal.returns-clause-value
 returns-clause-value c =
-    loaded_some c.args.numbered.now c.args.row _ c.in-Some.object.now c.original.result.now _ c.in_ok-loaded.loaded (file_or c.args.numbered.now c.args.row c.index-numbered-row.result c.requires.row) c.in-Some.ensures c.original.ensures (column_at c.args.numbered.now.places.now c.args.row _ (omega (arith, c.requires.row, c.requires.numbered.places))) c.in_ok-loaded.ensures.value
+    loaded_some c.args.numbered.now c.args.row _ c.in-Some.object.now c.original.result.now _ c.in_ok-load_object.field-0 (file_or c.args.numbered.now c.args.row c.index-numbered-row.result c.requires.row) c.in-Some.ensures c.original.ensures (column_at c.args.numbered.now.places.now c.args.row _ (omega (arith, c.requires.row, c.requires.numbered.places))) c.in_ok-load_object.ensures.value
 
 pub returns-clause-loaded : goal.returns-clause-loaded
-returns-clause-loaded c = alone c.in_ok-loaded.loaded c.in_ok-loaded.ensures.ascends c.in_ok-loaded.ensures.fits
+returns-clause-loaded c = alone c.in_ok-load_object.field-0 c.in_ok-load_object.ensures.ascends c.in_ok-load_object.ensures.fits

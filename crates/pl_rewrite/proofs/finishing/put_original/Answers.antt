@@ -9,5 +9,5 @@ returns-in_default c = sym (no_mark c.args.taken.now (sym (c.in_default.ensures.
 pub returns : goal.returns
 returns c =
     IfOk-weaker c.put.result _ _
-    (λ row e. e ∙ put_mark c.args.taken.now c.in-Some.marked.now c.as_str-name.result.now c.as_slice-old.result.now c.as_slice-own.result.now c.in_ok-original.original.items (c.in-Some.ensures.read c.requires) c.as_str-name.ensures c.as_slice-old.ensures c.as_slice-own.ensures c.in_ok-original.ensures.items)
+    (λ row e. e ∙ put_mark c.args.taken.now c.in-Some.marked.now c.as_str.result.now c.as_slice-2.result.now c.as_slice.result.now c.in_ok-original.original.items (c.in-Some.ensures.read c.requires) c.as_str.ensures c.as_slice-2.ensures c.as_slice.ensures c.in_ok-original.ensures.items)
     c.put.ensures

@@ -1,15 +1,15 @@
-use Rattle.std.proofs.Common.{arith}
-use Rattle.pl_rewrite.proofs.DigestLaws.{checksum_made, checksum_told, digest_long, read_item}
+use Rattle.std.proofs.Common.{arith, sym, ◌∙◌}
+use Rattle.pl_rewrite.proofs.DigestLaws.{borne_is, checksum_made, checksum_told, digest_long, numbered_read, read_item}
 use Rattle.pl_rewrite.proofs.lists.checksum_at.Goals as goal
 
-pub borne-requires : goal.borne-requires
-borne-requires c = read_item c.args.files.now c.args.row c.index-files-row.result c.requires.taken c.requires.row c.index-files-row.is
-
 pub word32-requires : goal.word32-requires
-word32-requires c = omega (arith, digest_long c.args.files.now c.args.row c.index-files-row.result c.digest_at.result c.requires.row c.digest_at.ensures)
+word32-requires c = omega (arith, digest_long c.args.numbered.now.files.now c.args.row c.index-numbered-row.result c.digest_at.result c.requires.row c.digest_at.ensures)
 
-pub returns-in-None : goal.returns-in-None
-returns-in-None c = checksum_made c.args.files.now c.args.row c.digest_at.result c.word32.result c.digest_at.ensures c.word32.ensures
+pub returns : goal.returns
+returns c = checksum_made c.args.numbered.now.files.now c.args.row c.digest_at.result c.word32.result c.digest_at.ensures c.word32.ensures
 
-pub returns-in-Some : goal.returns-in-Some
-returns-in-Some c = checksum_told c.args.files.now c.args.row c.index-files-row.result c.in-Some.checksum c.requires.row c.index-files-row.is c.in-Some.ensures
+pub returns-then-is_library : goal.returns-then-is_library
+returns-then-is_library c =
+    let ts = c.args.numbered.now.files.now in
+    let read = read_item ts c.args.row c.index-numbered-row.result (numbered_read c.args.numbered.now c.requires.numbered) c.requires.row c.index-numbered-row.is in
+    checksum_told ts c.args.row c.index-numbered-row.result c.in-Some.marked.now.checksum c.requires.row c.index-numbered-row.is (borne_is c.index-numbered-row.result c.in-Some.marked.now (c.in-Some.ensures.read read) (sym c.is_library.ensures ∙ c.if-is_library.true))

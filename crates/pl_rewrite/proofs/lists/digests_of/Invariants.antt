@@ -1,5 +1,5 @@
 use Rattle.std.proofs.Common.{take}
-use Rattle.pl_rewrite.specs.Digests.{AreDigests}
+use Rattle.pl_rewrite.specs.Rows.{AreDigests}
 use Rattle.pl_rewrite.proofs.lists.digests_of.Given as goal
 
 abbrev pub invariant-loop-row : goal.invariant-loop-row

@@ -1,36 +1,34 @@
-use Rattle.pl_rewrite.proofs.DigestLaws.{numbered_read}
-use Rattle.pl_rewrite.proofs.ProgramRowLaws.{have_words, program_rows}
-use Rattle.pl_rewrite.specs.Outcomes.{AreToldRows}
+use Rattle.std.proofs.Common.{refl, length, ap, subst, sym, ◌∙◌}
+use Rattle.pl_rewrite.specs.Outcomes.{AreHeldFlags}
+use Rattle.pl_rewrite.specs.RowWords.{AreRowWords}
+use Rattle.pl_rewrite.proofs.ProgramRowLaws.{have_words, links_needed, program_rows, told_rows}
 use Rattle.pl_rewrite.proofs.outcomes.made_of.Goals as goal
 
-pub digests_of-requires-clause-taken : goal.digests_of-requires-clause-taken
-digests_of-requires-clause-taken c = numbered_read c.args.numbered.now c.requires.numbered
+pub held_by_programs-requires-clause-one_each : goal.held_by_programs-requires-clause-one_each
+held_by_programs-requires-clause-one_each c = c.requires.run.column.count
 
-pub digests_of-requires-clause-one_each : goal.digests_of-requires-clause-one_each
-digests_of-requires-clause-one_each c = c.requires.stale.count
+pub words_of_rows-requires-clause-needed : goal.words_of_rows-requires-clause-needed
+words_of_rows-requires-clause-needed c = record { made = c.requires.run.column.count; held = ap length c.as_slice.ensures.value ∙ c.in_ok-held.ensures.count }
 
-pub program_outcomes-requires-clause-work : goal.program_outcomes-requires-clause-work
-program_outcomes-requires-clause-work c =
-    let told : AreToldRows c.args.numbered.now c.args.stale.now c.as_slice-told.result.now = rw c.as_slice-told.ensures.value c.in_ok-row_words.ensures in
+pub words_of_rows-requires-clause-links : goal.words_of_rows-requires-clause-links
+words_of_rows-requires-clause-links c =
+    let held = subst (AreHeldFlags c.args.numbered.now c.args.stale.now) (sym c.as_slice.ensures.value) c.in_ok-held.ensures in
+    links_needed c.args.numbered.now c.args.stale.now c.as_slice.result.now c.args.links held c.requires.links
+
+pub program_outcomes-requires : goal.program_outcomes-requires
+program_outcomes-requires c =
+    let n = c.args.numbered.now in
+    let held = subst (AreHeldFlags n c.args.stale.now) (sym c.as_slice.ensures.value) c.in_ok-held.ensures in
+    let told = told_rows n _ c.args.stale.now c.as_slice-2.result.now (subst (AreRowWords n _) (sym c.as_slice-2.ensures.value) c.in_ok-row_words.ensures) refl held in
     record {
-      numbered = c.requires.numbered;
-      asked = told.asked;
-      row_words = told.told;
-      digests = rw c.as_slice-digests.ensures.value c.in_ok-made.ensures;
+      work = record { numbered = c.requires.run.numbered; asked = told.asked; row_words = told.told };
+      count = c.requires.run.column.count;
+      rows = program_rows _ told.asked c.args.stale.now c.requires.run.numbered told.made told.held c.requires.run.column told.told;
     }
-
-pub program_outcomes-requires-clause-one_each : goal.program_outcomes-requires-clause-one_each
-program_outcomes-requires-clause-one_each c = c.requires.stale.count
-
-pub program_outcomes-requires-clause-programs : goal.program_outcomes-requires-clause-programs
-program_outcomes-requires-clause-programs c =
-    let told : AreToldRows c.args.numbered.now c.args.stale.now c.as_slice-told.result.now = rw c.as_slice-told.ensures.value c.in_ok-row_words.ensures in
-    program_rows _ told.asked c.args.stale.now c.requires.numbered told.made told.held c.requires.stale told.told
-
-pub with_libraries-requires-clause-digests : goal.with_libraries-requires-clause-digests
-with_libraries-requires-clause-digests c = rw c.as_slice-digests.ensures.value c.in_ok-made.ensures
 
 pub with_libraries-requires-clause-row_words : goal.with_libraries-requires-clause-row_words
 with_libraries-requires-clause-row_words c =
-    let told = c.in_ok-row_words.ensures in
-    have_words c.args.numbered.now told.asked c.args.stale.now c.in_ok-row_words.row_words.items told.made c.requires.stale told.told
+    let n = c.args.numbered.now in
+    let held = subst (AreHeldFlags n c.args.stale.now) (sym c.as_slice.ensures.value) c.in_ok-held.ensures in
+    let told = told_rows n _ c.args.stale.now c.in_ok-row_words.row_words.items c.in_ok-row_words.ensures refl held in
+    have_words n told.asked c.args.stale.now c.in_ok-row_words.row_words.items told.made c.requires.run.column told.told

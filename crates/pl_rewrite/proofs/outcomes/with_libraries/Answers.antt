@@ -20,7 +20,7 @@ library_if-requires-clause-row c =
     let given = c.into_iter-one-iterator.ensures.into_iter_gives in
     let all = c.args.row_words in
     let turn = YieldsList-turn (YieldsList-from_vec {s = c.into_iter-one-iterator.result} all.items given.0 (given.1 ∙ all.ok.0)) c.loop-one.yielded c.loop-one.one-iterator c.loop-one.yielded_by c.next.result c.next.new.self c.in-Some.one c.in-Some.is c.next.ensures.steps in
-    let row : c.len-row.result ≡ length c.loop-one.all.items = omega (arith, c.len-row.ensures, c.loop-one.all.ok.0) in
+    let row : c.len.result ≡ length c.loop-one.all.items = omega (arith, c.len.ensures, c.loop-one.all.ok.0) in
     omega (arith, row, turn.0, c.loop-one.invariant.0, c.requires.row_words.count)
 
 pub library_if-requires-clause-words : goal.library_if-requires-clause-words
@@ -28,10 +28,10 @@ library_if-requires-clause-words c =
     let given = c.into_iter-one-iterator.ensures.into_iter_gives in
     let all = c.args.row_words in
     let turn = YieldsList-turn (YieldsList-from_vec {s = c.into_iter-one-iterator.result} all.items given.0 (given.1 ∙ all.ok.0)) c.loop-one.yielded c.loop-one.one-iterator c.loop-one.yielded_by c.next.result c.next.new.self c.in-Some.one c.in-Some.is c.next.ensures.steps in
-    let counted : c.len-row.result ≡ length c.loop-one.all.items = omega (arith, c.len-row.ensures, c.loop-one.all.ok.0) in
-    let row : length c.loop-one.yielded ≡ c.len-row.result = omega (arith, counted, c.loop-one.invariant.0) in
-    let at : slice_get all.items c.len-row.result ≡ Some c.in-Some.one = subst (λ (k : ℕ). slice_get all.items k ≡ Some c.in-Some.one) row (slice_get_read all.items (length all.items) (length c.loop-one.yielded) c.in-Some.one refl turn.0 turn.1) in
-    c.requires.row_words.each c.len-row.result c.in-Some.one at
+    let counted : c.len.result ≡ length c.loop-one.all.items = omega (arith, c.len.ensures, c.loop-one.all.ok.0) in
+    let row : length c.loop-one.yielded ≡ c.len.result = omega (arith, counted, c.loop-one.invariant.0) in
+    let at : slice_get all.items c.len.result ≡ Some c.in-Some.one = subst (λ (k : ℕ). slice_get all.items k ≡ Some c.in-Some.one) row (slice_get_read all.items (length all.items) (length c.loop-one.yielded) c.in-Some.one refl turn.0 turn.1) in
+    c.requires.row_words.each c.len.result c.in-Some.one at
 
 pub loop-one-preserved : goal.loop-one-preserved
 loop-one-preserved c =
@@ -40,15 +40,15 @@ loop-one-preserved c =
     let ps = c.args.programs.items in
     let turn = YieldsList-turn (YieldsList-from_vec {s = c.into_iter-one-iterator.result} all.items given.0 (given.1 ∙ all.ok.0)) c.loop-one.yielded c.loop-one.one-iterator c.loop-one.yielded_by c.next.result c.next.new.self c.in-Some.one c.in-Some.is c.next.ensures.steps in
     let i = length c.loop-one.yielded in
-    let counted : c.len-row.result ≡ length c.loop-one.all.items = omega (arith, c.len-row.ensures, c.loop-one.all.ok.0) in
-    let row : i ≡ c.len-row.result = omega (arith, counted, c.loop-one.invariant.0) in
-    let lt : i < length ps = omega (arith, turn.0, c.requires.row_words.count, c.requires.programs.count, c.requires.stale.count) in
-    let n = next_turn ps i c.next-next.result (into_iter_items c.loop-one.programs) (into_iter_items c.next-next.new.self) (into_iter_len c.loop-one.programs) (into_iter_len c.next-next.new.self) lt c.loop-one.invariant.2 c.loop-one.invariant.3 c.next-next.ensures.cases in
-    let at : slice_get ps c.len-row.result ≡ Some n.item = subst (λ (k : ℕ). slice_get ps k ≡ Some n.item) row n.at in
+    let counted : c.len.result ≡ length c.loop-one.all.items = omega (arith, c.len.ensures, c.loop-one.all.ok.0) in
+    let row : i ≡ c.len.result = omega (arith, counted, c.loop-one.invariant.0) in
+    let lt : i < length ps = omega (arith, turn.0, c.requires.row_words.count, c.requires.programs.count, c.requires.run.column.count) in
+    let n = next_turn ps i c.next-in-loop-one.result (into_iter_items c.loop-one.programs) (into_iter_items c.next-in-loop-one.new.self) (into_iter_len c.loop-one.programs) (into_iter_len c.next-in-loop-one.new.self) lt c.loop-one.invariant.2 c.loop-one.invariant.3 c.next-in-loop-one.ensures.cases in
+    let at : slice_get ps c.len.result ≡ Some n.item = subst (λ (k : ℕ). slice_get ps k ≡ Some n.item) row n.at in
     let long = ap length c.in_ok-push.ensures.items in
     rw (length_push c.loop-one.yielded c.in-Some.one) (
-      omega (arith, long, length_push c.loop-one.all.items c.or-made.result, c.loop-one.invariant.0),
-      made_more c.args.numbered.now c.args.stale.now ps c.loop-one.all.items _ c.len-row.result c.in_ok-library.library c.flatten-program.result c.or-made.result n.item c.next-next.result counted c.requires.programs n.is at c.in_ok-library.ensures c.flatten-program.ensures c.or-made.ensures
+      omega (arith, long, length_push c.loop-one.all.items c.or.result, c.loop-one.invariant.0),
+      made_more c.args.numbered.now c.args.stale.now ps c.loop-one.all.items _ c.len.result c.in_ok-library.library c.flatten-program.result c.or.result n.item c.next-in-loop-one.result counted c.requires.programs n.is at c.in_ok-library.ensures c.flatten-program.ensures c.or.ensures
           c.in_ok-push.ensures.items c.loop-one.invariant.1,
       n.after,
       n.count,
@@ -59,4 +59,4 @@ returns c =
     let given = c.into_iter-one-iterator.ensures.into_iter_gives in
     let all = c.args.row_words in
     let end = YieldsList-end (YieldsList-from_vec {s = c.into_iter-one-iterator.result} all.items given.0 (given.1 ∙ all.ok.0)) c.loop-one.yielded c.loop-one.one-iterator c.loop-one.yielded_by c.next.result c.next.new.self c.in-None.is c.next.ensures.steps in
-    record { count = omega (arith, c.loop-one.invariant.0, end.1, c.requires.row_words.count, c.requires.stale.count); each = c.loop-one.invariant.1 }
+    record { count = omega (arith, c.loop-one.invariant.0, end.1, c.requires.row_words.count, c.requires.run.column.count); each = c.loop-one.invariant.1 }

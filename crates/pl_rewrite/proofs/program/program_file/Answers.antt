@@ -18,8 +18,8 @@ returns-then-not-set c = not_set c.args.work.now c.args.row c.requires.program c
 pub placed-requires : goal.placed-requires
 placed-requires c = c.requires.work.numbered
 
-pub file_with-requires-clause-set : goal.file_with-requires-clause-set
-file_with-requires-clause-set c = sym c.in_ok-set.ensures ∙ c.if-not-set.false
+pub file_with-requires-clause-program : goal.file_with-requires-clause-program
+file_with-requires-clause-program c = record { work = c.requires.work; program = c.requires.program; set = sym c.in_ok-set.ensures ∙ c.if-not-set.false }
 
 pub file_with-requires-clause-placed : goal.file_with-requires-clause-placed
 file_with-requires-clause-placed c = c.in_ok-placed.ensures

@@ -1,4 +1,5 @@
 use Rattle.std.proofs.Common.{sym, subst}
+use Rattle.std.proofs.lemmas.Result.{IfOk-weaker}
 use Rattle.pl_cone.specs.Taken.{HasItsEntry}
 use Rattle.pl_rewrite.specs.Libraries.{IsNewIfAny}
 use Rattle.pl_rewrite.specs.Rows.{IsFileMeant}
@@ -18,7 +19,7 @@ bounds-numbered-row c = c.requires.row.within
 pub storable_library-requires-clause-read : goal.storable_library-requires-clause-read
 storable_library-requires-clause-read c =
     let n = c.args.numbered.now in
-    subst HasItsEntry c.index-numbered-row.is (read_item n.files.now c.args.row c.index-numbered-row.result (numbered_read n c.requires.numbered) c.requires.row.within c.index-numbered-row.is)
+    subst HasItsEntry c.index-numbered-row.is (read_item n.files.now c.args.row c.index-numbered-row.result (numbered_read n c.requires.row.numbered) c.requires.row.within c.index-numbered-row.is)
 
 pub storable_library-requires-clause-form : goal.storable_library-requires-clause-form
 storable_library-requires-clause-form c =
@@ -31,5 +32,6 @@ returns c =
     let n = c.args.numbered.now in
     let new = subst (IsNewIfAny n c.args.row) c.in-Some.is c.in_ok-made.ensures in
     let at = file_or n c.args.row c.index-numbered-row.result c.requires.row.within in
-    subst (IsFileMeant n c.args.row c.args.version) (sym c.in_ok-file.ensures)
-    (library_in_version n c.args.row _ c.in-Some.parts c.args.version c.requires.row.walk c.requires.row.library new.0 at new.1)
+    IfOk-weaker c.storable_library.result _ _
+    (λ file is. subst (IsFileMeant n c.args.row c.args.version) (sym is)
+    (library_in_version n c.args.row _ c.in-Some.parts c.args.version c.requires.row.walk c.requires.row.library new.0 at new.1)) c.storable_library.ensures

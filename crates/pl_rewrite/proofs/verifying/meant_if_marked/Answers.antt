@@ -1,27 +1,44 @@
-use Rattle.std.proofs.Common.{sym, ap, ◌∙◌}
+use Rattle.std.proofs.Common.{◌≡◌, ◌≤◌, ℕ, List, [], ◌∷◌, false, length, sym, ap, ◌∙◌, arith}
+use Rattle.std.specs.Prelude.{◌==◌}
+use Rattle.std.proofs.lemmas.Bool.{false≢true}
+use Rattle.std.proofs.lemmas.Result.{IfOk-weaker}
+use Rattle.pl_rewrite.specs.Rows.{walk_of}
 use Rattle.pl_rewrite.specs.Verify.{are_marked}
 use Rattle.pl_rewrite.proofs.NumberedLaws.{walk_rows}
-use Rattle.pl_rewrite.proofs.VerifyFileLaws.{marked_walk, unmarked_none}
-use Rattle.pl_rewrite.proofs.VerifyingLaws.{meant_in}
+use Rattle.pl_rewrite.proofs.RowsLaws.{empty_is}
+use Rattle.pl_rewrite.proofs.VerifyFileLaws.{borne_meant, marked_walk, refused_none, unmarked_none}
 use Rattle.pl_rewrite.proofs.verifying.meant_if_marked.Goals as goal
 
-pub are_marked-marked-requires : goal.are_marked-marked-requires
-are_marked-marked-requires c = rw c.walk-walk.ensures (walk_rows c.args.numbered.now c.args.row c.requires.numbered).within
+some_rows : (xs : List ℕ) → (length xs == 0) ≡ false → 1 ≤ length xs
+some_rows [] e = absurd (false≢true (sym e))
+some_rows (x ∷ xs) e = omega arith
 
-pub returns-then-not-marked : goal.returns-then-not-marked
-returns-then-not-marked c = λ x m at mark same.
+pub returns-then-is_empty : goal.returns-then-is_empty
+returns-then-is_empty c = λ x m at mark same.
     let n = c.args.numbered.now in
-    let none = ap (are_marked n.files.now) (sym c.walk-walk.ensures) ∙ (sym c.are_marked-marked.ensures ∙ c.if-not-marked.true) in
+    refused_none n c.args.row x c.requires.numbered at (sym c.walk-walk.ensures ∙ empty_is c.walk-walk.result.now (sym c.is_empty.ensures ∙ c.if-is_empty.true))
+
+pub are_marked-requires : goal.are_marked-requires
+are_marked-requires c = rw c.walk-walk.ensures (walk_rows c.args.numbered.now c.args.row c.requires.numbered).within
+
+pub returns-then-not-are_marked : goal.returns-then-not-are_marked
+returns-then-not-are_marked c = λ x m at mark same.
+    let n = c.args.numbered.now in
+    let none = ap (are_marked n.files.now) (sym c.walk-walk.ensures) ∙ (sym c.are_marked.ensures ∙ c.if-not-are_marked.true) in
     unmarked_none n c.requires.numbered.taken.0 c.requires.numbered.taken.1 c.requires.borne.places c.requires.borne.stamps c.args.row x c.requires.numbered none at
 
-pub meant_with-requires-clause-walk : goal.meant_with-requires-clause-walk
-meant_with-requires-clause-walk c = λ some.
+pub meant_by-requires-clause-walk : goal.meant_by-requires-clause-walk
+meant_by-requires-clause-walk c =
     let n = c.args.numbered.now in
-    let all = ap (are_marked n.files.now) (sym c.walk-walk.ensures) ∙ (sym c.are_marked-marked.ensures ∙ c.if-not-marked.false) in
+    let all = ap (are_marked n.files.now) (sym c.walk-walk.ensures) ∙ (sym c.are_marked.ensures ∙ c.if-not-are_marked.false) in
+    let some : 1 ≤ length (walk_of n c.args.row) = omega (arith, some_rows c.walk-walk.result.now (sym c.is_empty.ensures ∙ c.if-is_empty.false), ap length c.walk-walk.ensures) in
     marked_walk n c.args.row c.requires.numbered all some
 
 pub returns : goal.returns
-returns c = λ x m at mark same.
+returns c =
     let n = c.args.numbered.now in
-    let all = ap (are_marked n.files.now) (sym c.walk-walk.ensures) ∙ (sym c.are_marked-marked.ensures ∙ c.if-not-marked.false) in
-    meant_in n c.requires.numbered.taken.0 c.requires.numbered.taken.1 c.requires.borne.places c.requires.borne.stamps c.args.row x m c.args.version _ c.requires.numbered all at mark same c.in_ok-file.ensures
+    let all = ap (are_marked n.files.now) (sym c.walk-walk.ensures) ∙ (sym c.are_marked.ensures ∙ c.if-not-are_marked.false) in
+    let some : 1 ≤ length (walk_of n c.args.row) = omega (arith, some_rows c.walk-walk.result.now (sym c.is_empty.ensures ∙ c.if-is_empty.false), ap length c.walk-walk.ensures) in
+    let walk = marked_walk n c.args.row c.requires.numbered all some in
+    IfOk-weaker c.meant_by.result _ _
+    (λ file is. λ x m at mark same. borne_meant n c.requires.numbered.taken.0 c.requires.numbered.taken.1 c.requires.borne.places c.requires.borne.stamps c.args.row x m c.args.version _ c.requires.numbered walk all at mark same is) c.meant_by.ensures

@@ -2,7 +2,7 @@ use Rattle.std.proofs.Common.{Option, sym, ap, ◌∙◌}
 use Rattle.pl_form.specs.Files.{marked_in, original_in, original_or_file}
 use Rattle.pl_form.specs.declared.file.Marked.{Marked}
 use Rattle.sha2.specs.Sha256.{sha256}
-use Rattle.pl_rewrite.proofs.lists.own_digest.Goals as goal
+use Rattle.pl_rewrite.proofs.lists.digest_if.Goals as goal
 
 pub returns-in-None : goal.returns-in-None
 unfolding original_in
