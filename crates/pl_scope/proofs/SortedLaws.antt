@@ -27,8 +27,11 @@ behind_more es key place e rising lt lower = behind_last es key (place + 1) plac
 pub first_here : (es : List Entry) (key place : ℕ) (e : Entry) → IsNonDecreasingBy (λ e. e.key) es → place < length es → key ≤ (get_or es place e).key → IsBehind es key place → IsFirst es key place
 first_here es key place e rising lt le behind = record {
   bound = behind.bound;
-  point = (behind.lower, λ k d low high.
-      let at = rising place k e low high in
-      let read = get_or_default es k d e high in
-      rw read (le-ltb (get_or es k e).key key (omega (arith, at, le))));
+  point = (
+    behind.lower,
+    λ k d low high.
+        let at = rising place k e low high in
+        let read = get_or_default es k d e high in
+        rw read (le-ltb (get_or es k e).key key (omega (arith, at, le))),
+  );
 }

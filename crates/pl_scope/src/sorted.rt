@@ -68,12 +68,14 @@ fn is_behind(entries: &[Entry], place: usize, key: u128) -> bool
     requires { IsNonDecreasingBy (λ e. e.key) entries.now }
     ensures { OnTrue result (spec.IsBehind entries.now key place) }
 {
+    let count = entries.len();
     if place == 0 {
         true
-    } else if place > entries.len() {
+    } else if place > count {
         false
     } else {
-        u128::from(entries[place - 1].key) < key
+        let last = &entries[place - 1];
+        u128::from(last.key) < key
     }
 }
 
@@ -83,8 +85,11 @@ fn near(entries: &[Entry], start: usize, key: u128) -> Option<usize>
     requires behind { spec.IsBehind entries.now key start }
     ensures { IfSome result (spec.IsFirst entries.now key) }
 {
-    for place in start..entries.len().min(start.saturating_add(STEPS)) {
-        if u128::from(entries[place].key) >= key {
+    let end = entries.len().min(start.saturating_add(STEPS));
+    for place in start..end {
+        let entry = &entries[place];
+        let own = u128::from(entry.key);
+        if own >= key {
             return Some(place);
         }
     }
