@@ -22,7 +22,7 @@ use Rattle.pl_scope.specs.Definers.{pair}
 use Rattle.pl_scope.specs.Entries.{is_entry, has_value, AreBetween, AreUnder, IsAdded}
 use Rattle.pl_scope.specs.Finds.{in_member, of_object, first_in, from_member}
 use Rattle.pl_scope.specs.ScopeIndex.{best_of, IsBest}
-use Rattle.pl_scope.specs.ShortIndex.{short_key, key_at, member_of, end_of_hash, best_under, AreSorted, AreSymbolsAdded, AreVersions, HasShort, HaveDefiners, IsShortIndex}
+use Rattle.pl_scope.specs.ShortIndex.{mixed, short_key, key_at, member_of, end_of_hash, best_under, AreSorted, AreSymbolsAdded, AreVersions, HasShort, HaveDefiners, IsShortIndex}
 use Rattle.pl_scope.specs.VersionIndex.{IsVersionIndex}
 use Rattle.pl_scope.specs.declared.block.Block.{Block}
 use Rattle.pl_scope.specs.declared.entries.Entry.{Entry}
@@ -127,15 +127,15 @@ versions_read index m o v has read =
     let same : e.0 ≡ v = sym (get_or_from_slice_get index.versions.items m e.0 v e.1) ∙ sym read in
     subst (λ (x : VersionIndex). IsVersionIndex o.versions x) same e.2
 
-key_is : (o : Object) (member i hash : ℕ) (name : List ℕ) (s : Symbol) → slice_get o.symbols i ≡ Some s → is_definer s Other (is_program o.kind) ≡ true → s.name ≡ name → hash ≡ gnu name → key_at o member i ≡ Some (pair hash member)
+key_is : (o : Object) (member i hash : ℕ) (name : List ℕ) (s : Symbol) → slice_get o.symbols i ≡ Some s → is_definer s Other (is_program o.kind) ≡ true → s.name ≡ name → hash ≡ mixed (gnu name) → key_at o member i ≡ Some (pair hash member)
 key_is o member i hash name s at definer named is =
     ap (λ (x : Option Symbol). option_and_then (short_key o member) x) at
-    ∙ ap (λ (b : Bool). if b then Some (pair (gnu s.name) member) else None) definer
-    ∙ ap (λ (n : List ℕ). Some (pair (gnu n) member)) named
+    ∙ ap (λ (b : Bool). if b then Some (pair (mixed (gnu s.name)) member) else None) definer
+    ∙ ap (λ (n : List ℕ). Some (pair (mixed (gnu n)) member)) named
     ∙ ap (λ (h : ℕ). Some (pair h member)) (sym is)
 
 -- the definers of a name are under its hash
-pub short_have : (index : ShortIndex) (member hash : ℕ) (b : Block) (es : List Entry) → HasShort index member b.object.now → hash ≡ gnu b.name.now → AreUnder index.definers.entries.items (pair hash member) es → HaveName b es
+pub short_have : (index : ShortIndex) (member hash : ℕ) (b : Block) (es : List Entry) → HasShort index member b.object.now → hash ≡ mixed (gnu b.name.now) → AreUnder index.definers.entries.items (pair hash member) es → HaveName b es
 short_have index member hash b es has is under i s at definer =
     let n = named_by b.object.now b.name.now b.class s definer in
     from_under index.definers.entries.items es (pair hash member) i under (has.definers i (pair hash member) (key_is b.object.now member i hash b.name.now s at n.definer n.named is))
@@ -194,7 +194,7 @@ any_placed key i m (e ∷ es) is hit = elim (cases_Bool (is_entry key i e)) [
 ]
 
 -- each member with a definer of the name is under its hash
-pub short_whole : (os : List Object) (index : ShortIndex) (name : List ℕ) (hash count : ℕ) (class : Class) (version : Option (List ℕ)) (m : ℕ) (f : Found) (found : List Entry) → IsShortIndex os index → hash ≡ gnu name → count ≡ length os → count < 2 ^ 32
+pub short_whole : (os : List Object) (index : ShortIndex) (name : List ℕ) (hash count : ℕ) (class : Class) (version : Option (List ℕ)) (m : ℕ) (f : Found) (found : List Entry) → IsShortIndex os index → hash ≡ mixed (gnu name) → count ≡ length os → count < 2 ^ 32
     → AreBetween index.definers.entries.items (pair hash 0) (end_of_hash hash count) found → in_member os name class version m ≡ Some f → list_any (has_value m) (map placed found) ≡ true
 short_whole os index name hash count class version m f found is known all few between e =
     let d = member_defines os name class version m f e in

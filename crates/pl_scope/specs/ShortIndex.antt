@@ -1,5 +1,5 @@
 -- The definers of all members in one list, and the search that asks the members under a hash alone.
-use Rattle.std.specs.Prelude.{◌≡◌, ◌+◌, ◌%◌, ◌^◌, ℕ, true, nat_lt, List, length, slice_get, Option, Some, None, if◌then◌else◌}
+use Rattle.std.specs.Prelude.{◌≡◌, ◌+◌, ◌*◌, ◌%◌, ◌^◌, ℕ, true, nat_lt, List, length, slice_get, Option, Some, None, if◌then◌else◌}
 use Rattle.std.specs.List.{list_any}
 use Rattle.std.specs.List.Sorted.{IsNonDecreasingBy}
 use Rattle.std.specs.Option.{option_and_then, option_map}
@@ -22,9 +22,13 @@ use Rattle.pl_scope.specs.declared.wanted.Wanted.{Wanted}
 
 -- ---- keys
 
--- the key of a member's symbol, where it is a definer: its name's hash, with the member
+-- a hash spread over all numbers of 32 bits
+abbrev pub mixed : ℕ → ℕ
+mixed hash = hash * 2654435769 % 2 ^ 32
+
+-- the key of a member's symbol, where it is a definer: its name's mixed hash, with the member
 abbrev pub short_key : Object → ℕ → Symbol → Option ℕ
-short_key o member s = if is_definer s Other (is_program o.kind) then Some (pair (gnu s.name) member) else None
+short_key o member s = if is_definer s Other (is_program o.kind) then Some (pair (mixed (gnu s.name)) member) else None
 
 -- the same of the symbol of an index
 abbrev pub key_at : Object → ℕ → ℕ → Option ℕ

@@ -18,7 +18,7 @@ use crate::folder::{Among, position_of};
 use crate::matching::{defines, matching};
 use crate::probe::matching_by_table;
 use crate::scope_index::{ScopeIndex, members_under, own_at};
-use crate::short_index::{ShortIndex, member_of, of_member, under_hash, versions_at};
+use crate::short_index::{ShortIndex, member_of, mixed, of_member, under_hash, versions_at};
 use crate::wanted::{Wanted, wanted_by};
 use crate::{Found, Reference, Scope};
 use pl_elf::constants::R_X86_64_COPY;
@@ -174,7 +174,7 @@ fn matching_by_short(
         (option_map (λ x. x.now) wanted.now.version) }
 {
     let versions = versions_at(definers, member);
-    let among = of_member(definers, wanted.gnu, member);
+    let among = of_member(definers, mixed(wanted.gnu), member);
     let block = Block {
         object,
         name: wanted.name,
@@ -320,7 +320,7 @@ fn first_short(
 {
     let count = scope.count();
     let mut best = None;
-    for entry in under_hash(definers, wanted.gnu, count) {
+    for entry in under_hash(definers, mixed(wanted.gnu), count) {
         best = best_under(scope, wanted, start, best, entry, definers);
     }
     best

@@ -24,10 +24,17 @@ const FEW: usize = 512;
 /// The definers of all members in one list, and the versions of each member.
 #[derive(Drop)]
 pub struct ShortIndex<'a> {
-    /// The indexes of symbols, under the hashes of their names and their members.
+    /// The indexes of symbols, under the mixed hashes of their names and their members.
     pub definers: Sorted,
 
     pub versions: Vec<VersionIndex<'a>>,
+}
+
+/// A hash spread over all numbers of 32 bits: the hashes of names that differ in their last bytes lie close together.
+pub fn mixed(hash: u32) -> u32
+    ensures { result ≡ spec.mixed hash }
+{
+    hash.wrapping_mul(0x9e37_79b9)
 }
 
 /// The key of a member's symbol; None where it is no definer.
@@ -35,7 +42,8 @@ fn short_key(object: &Object, member: u32, symbol: &Symbol) -> Option<u64>
     ensures { result ≡ spec.short_key object.now member symbol.now }
 {
     if is_definer(symbol, Class::Other, object.kind.is_program()) {
-        Some(pair(gnu_hash(symbol.name.as_slice()), member))
+        let hash = gnu_hash(symbol.name.as_slice());
+        Some(pair(mixed(hash), member))
     } else {
         None
     }
@@ -155,7 +163,7 @@ pub fn short_index_of<'a>(
     }
 }
 
-/// The definers of the first so many members under a hash.
+/// The definers of the first so many members under a mixed hash.
 pub fn under_hash<'i>(index: &'i ShortIndex<'_>, hash: u32, count: u32) -> &'i [Entry]
     requires { spec.IsRising index.now }
     ensures { AreBetween index.now.definers.entries.items (definers.pair hash 0)
@@ -165,7 +173,7 @@ pub fn under_hash<'i>(index: &'i ShortIndex<'_>, hash: u32, count: u32) -> &'i [
     range(&index.definers, first, first + u128::from(count))
 }
 
-/// The definers of a member under a hash.
+/// The definers of a member under a mixed hash.
 pub fn of_member<'i>(index: &'i ShortIndex<'_>, hash: u32, member: u32) -> &'i [Entry]
     requires { spec.IsRising index.now }
     ensures { AreUnder index.now.definers.entries.items (definers.pair hash member) result.now }

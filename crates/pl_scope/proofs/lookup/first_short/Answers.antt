@@ -1,6 +1,7 @@
-use Rattle.std.proofs.Common.{◌≡◌, ◌<◌, ◌^◌, ◌∙◌, length, refl, sym, arith}
+use Rattle.std.proofs.Common.{◌≡◌, ◌<◌, ◌^◌, ◌∙◌, length, refl, sym, ap, arith}
 use Rattle.std.specs.Option.{option_map}
 use Rattle.pl_scope.specs.Scope.{objects}
+use Rattle.pl_scope.specs.ShortIndex.{mixed}
 use Rattle.pl_scope.proofs.MemberLaws.{length_objects}
 use Rattle.pl_scope.proofs.ScopeIndexLaws.{best_none}
 use Rattle.pl_scope.proofs.ShortIndexLaws.{short_done, short_more, short_whole}
@@ -28,4 +29,4 @@ returns c =
     let all : c.count-count.result ≡ length os = omega (arith, length_objects c.args.scope.now, c.count-count.ensures.count) in
     let few : c.count-count.result < 2 ^ 32 = omega (arith, power) in
     short_done os wanted c.args.start items c.loop-entry.entry-index (length c.args.scope.now) c.loop-entry.best c.loop-entry-test.false (sym (length_objects c.args.scope.now)) c.loop-entry.invariant
-    (λ m f at. short_whole os c.args.definers.now wanted.name.now wanted.gnu c.count-count.result wanted.class version m f items c.requires.index c.requires.wanted.gnu all few c.under_hash-entry-items.ensures at)
+    (λ m f at. short_whole os c.args.definers.now wanted.name.now c.mixed.result c.count-count.result wanted.class version m f items c.requires.index (c.mixed.ensures ∙ ap mixed c.requires.wanted.gnu) all few c.under_hash-entry-items.ensures at)
