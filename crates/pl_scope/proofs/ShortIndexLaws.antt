@@ -4,7 +4,7 @@ use Rattle.std.specs.Prelude.{slice_get, nat_lt, ◌==◌, vec_len, if◌then◌
 use Rattle.std.specs.List.{list_any}
 use Rattle.std.specs.List.Sorted.{IsNonDecreasingBy, IsPermutation}
 use Rattle.std.specs.Option.{option_and_then, option_map}
-use Rattle.std.proofs.lemmas.Bool.{cases_Bool, and_parts, or_right, eqb-true, eq-eqb, ltb-true, ltb-false}
+use Rattle.std.proofs.lemmas.Bool.{cases_Bool, and_parts, or_right, eqb-true, eq-eqb, le-ltb, lt-ltb, ltb-true, ltb-false}
 use Rattle.std.proofs.lemmas.List.{take_more, take_all, map-append, length-append}
 use Rattle.std.proofs.lemmas.List.Folds.{Any-from_list_any, list_any_at}
 use Rattle.std.proofs.lemmas.List.Sorted.{list_any-IsPermutation}
@@ -164,6 +164,17 @@ module _ (os : List Object) (w : Wanted) (start : ℕ) where
         let left : new ≡ best = made ∙ rw ge refl in
         rw left (asked_none os w.name.now w.class Version start asked (placed e) best so_far (nowhere (member_of e) (ltb-false (member_of e) (length os) ge)))
   ]
+
+  -- an entry whose member is one of the objects, and one whose is not
+  pub under_asked : (best new : Option Found) (e : Entry) (member : ℕ) → member ≡ member_of e → member < length os → new ≡ best_of os w.name.now w.class Version start best member → new ≡ best_under os w start best e
+  under_asked best new e member is lt made =
+      let test : nat_lt (member_of e) (length os) ≡ true = lt-ltb (member_of e) (length os) (subst (λ (n : ℕ). n < length os) is lt) in
+      rw test (made ∙ ap (λ (n : ℕ). best_of os w.name.now w.class Version start best n) is)
+
+  pub under_passed : (best : Option Found) (e : Entry) (member : ℕ) → member ≡ member_of e → length os ≤ member → best ≡ best_under os w start best e
+  under_passed best e member is le =
+      let test : nat_lt (member_of e) (length os) ≡ false = le-ltb (member_of e) (length os) (subst (λ (n : ℕ). length os ≤ n) is le) in
+      rw test refl
 
   -- one entry more
   pub short_more : (items : List Entry) (i : ℕ) (d : Entry) (best new : Option Found) → i < length items → IsBestOf (map placed (take i items)) best → new ≡ best_under os w start best (get_or items i d) → IsBestOf (map placed (take (i + 1) items)) new

@@ -300,7 +300,8 @@ fn best_under(
     ensures { result ≡ short.best_under (objects scope.now) wanted.now start best entry.now }
 {
     let member = member_of(entry);
-    if member < scope.count() {
+    let count = scope.count();
+    if member < count {
         best_of(scope, wanted, start, best, member, Way::Short(definers))
     } else {
         best
