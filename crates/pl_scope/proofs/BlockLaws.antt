@@ -1,4 +1,4 @@
--- The steps of a search for a name in the lists of an object's definers.
+-- The steps of a search for a name among the definers of an object.
 use Rattle.std.proofs.Common.{◌≡◌, ◌≢◌, ℕ, ◌+◌, ◌<◌, ◌≤◌, Bool, true, false, not, ◌&&◌, ◌||◌, cond, List, [], ◌∷◌, ◌++◌, length, take, drop, get_or, Option, Some, None, refl, sym, ap, subst, ◌∙◌, arith, inl, inr}
 use Rattle.std.specs.Prelude.{slice_get, position, ◌==◌, IsSome, if◌then◌else◌}
 use Rattle.std.specs.List.{list_any}
@@ -12,20 +12,21 @@ use Rattle.pl_object.specs.SymbolClauses.{is_same_name, version_name}
 use Rattle.pl_sym.specs.declared.symbol.Symbol.{Symbol}
 use Rattle.pl_ver.specs.Fields.{index_of}
 use Rattle.pl_ver.specs.declared.constants.TheConstants.{VER_NDX_GLOBAL, VERSYM_HIDDEN}
-use Rattle.pl_scope.specs.Block.{takes, values, end_of_name, IsBlock, AreCandidates, HaveVersion, IsAnyOf}
+use Rattle.pl_scope.specs.Block.{takes, values, end_of_name, IsBlock, AreCandidates, AreLists, AreRising, HaveName, HaveVersion, IsAnyOf}
 use Rattle.pl_scope.specs.Definers.{pair, tag_of, IsList}
 use Rattle.pl_scope.specs.Entries.{is_entry, has_value, AreBetween, AreUnder}
 use Rattle.pl_scope.specs.Matching.{counts, defines, has_version, only}
 use Rattle.pl_scope.specs.Numbers.{key_of}
 use Rattle.pl_scope.specs.Probing.{another, lesser, least_from, taken}
 use Rattle.pl_scope.specs.declared.block.Block.{Block}
+use Rattle.pl_scope.specs.declared.block.Lists.{Lists}
 use Rattle.pl_scope.specs.declared.definers.Listing.{Listing}
 use Rattle.pl_scope.specs.declared.definers.Listing.TheVariants as lists
 use Rattle.pl_scope.specs.declared.entries.Entry.{Entry}
 use Rattle.pl_scope.specs.declared.probe.Pick.{Pick}
 use Rattle.pl_scope.specs.declared.probe.Pick.TheVariants as picks
 use Rattle.pl_scope.proofs.DefinerLaws.{key_is}
-use Rattle.pl_scope.proofs.EntryLaws.{any_value, from_under}
+use Rattle.pl_scope.proofs.EntryLaws.{any_number, any_value, from_under}
 use Rattle.pl_scope.proofs.LeastLaws.{IsComplete, any_found, defines_of, differs, least_is, no_other, symbol_at}
 use Rattle.pl_scope.proofs.MatchingLaws.{named_by}
 use Rattle.pl_scope.proofs.PlaceLaws.{IsAt, located, only_many, only_none, only_one, position_none}
@@ -37,47 +38,57 @@ abbrev Test : Block → Pick → Symbol → Bool
 Test b pick = taken b.object.now b.name.now b.class pick
 
 -- a definer of the name stands in a list under the name's key and what stands beside it there
-listed : (b : Block) (listing : Listing) (es : List Entry) (i tag : ℕ) (s : Symbol) → IsBlock b → IsList b.numbers.now b.versions.now b.object.now listing es → slice_get b.object.now.symbols i ≡ Some s → defines b.object.now b.name.now b.class s ≡ true
-    → tag_of b.numbers.now b.versions.now listing s ≡ Some tag → list_any (is_entry (pair b.key tag) i) es ≡ true
-listed b listing es i tag s is list at definer tagged =
+listed : (b : Block) (l : Lists) (listing : Listing) (es : List Entry) (i tag : ℕ) (s : Symbol) → AreLists b l → IsList l.numbers.now b.versions.now b.object.now listing es → slice_get b.object.now.symbols i ≡ Some s → defines b.object.now b.name.now b.class s ≡ true
+    → tag_of l.numbers.now b.versions.now listing s ≡ Some tag → list_any (is_entry (pair l.key tag) i) es ≡ true
+listed b l listing es i tag s are list at definer tagged =
     let n = named_by b.object.now b.name.now b.class s definer in
-    list.whole i (pair b.key tag) (key_is b.numbers.now b.versions.now b.object.now listing b.name.now b.key i tag s is.keyed at n.definer n.named tagged)
+    list.whole i (pair l.key tag) (key_is l.numbers.now b.versions.now b.object.now listing b.name.now l.key i tag s are.keyed at n.definer n.named tagged)
+
+-- the lists are in the order of their keys
+pub are_rising : (b : Block) (l : Lists) → AreLists b l → AreRising l.definers.now
+are_rising b l are = record { by_index = are.definers.by_index.rising; shown = are.definers.shown.rising; by_version = are.definers.by_version.rising }
 
 -- ---- the candidates of each step
 
-pub plain_here : (b : Block) (es : List Entry) → IsBlock b → AreUnder b.definers.now.by_index.items (pair b.key VER_NDX_GLOBAL) es → AreCandidates b picks.Plain es
-plain_here b es is under i holds =
+pub plain_here : (b : Block) (l : Lists) (es : List Entry) → AreLists b l → AreUnder l.definers.now.by_index.items (pair l.key VER_NDX_GLOBAL) es → AreCandidates b picks.Plain es
+plain_here b l es are under i holds =
     let at = symbol_at (Test b picks.Plain) (slice_get b.object.now.symbols i) holds in
     let parts = and_parts _ _ at.2 in
-    let tagged : tag_of b.numbers.now b.versions.now lists.Index at.0 ≡ Some VER_NDX_GLOBAL = ap (λ (v : ℕ). Some (index_of v)) (eqb-true at.0.version VER_NDX_GLOBAL parts.1) in
-    from_under b.definers.now.by_index.items es (pair b.key VER_NDX_GLOBAL) i under (listed b lists.Index b.definers.now.by_index.items i VER_NDX_GLOBAL at.0 is is.definers.by_index at.1 parts.0 tagged)
+    let tagged : tag_of l.numbers.now b.versions.now lists.Index at.0 ≡ Some VER_NDX_GLOBAL = ap (λ (v : ℕ). Some (index_of v)) (eqb-true at.0.version VER_NDX_GLOBAL parts.1) in
+    from_under l.definers.now.by_index.items es (pair l.key VER_NDX_GLOBAL) i under (listed b l lists.Index l.definers.now.by_index.items i VER_NDX_GLOBAL at.0 are are.definers.by_index at.1 parts.0 tagged)
 
-pub index_here : (b : Block) (index : ℕ) (es : List Entry) → IsBlock b → AreUnder b.definers.now.by_index.items (pair b.key index) es → AreCandidates b (picks.Index index) es
-index_here b index es is under i holds =
+pub index_here : (b : Block) (l : Lists) (index : ℕ) (es : List Entry) → AreLists b l → AreUnder l.definers.now.by_index.items (pair l.key index) es → AreCandidates b (picks.Index index) es
+index_here b l index es are under i holds =
     let at = symbol_at (Test b (picks.Index index)) (slice_get b.object.now.symbols i) holds in
     let parts = and_parts _ _ at.2 in
-    let tagged : tag_of b.numbers.now b.versions.now lists.Index at.0 ≡ Some index = ap (λ (k : ℕ). Some k) (eqb-true (index_of at.0.version) index parts.1) in
-    from_under b.definers.now.by_index.items es (pair b.key index) i under (listed b lists.Index b.definers.now.by_index.items i index at.0 is is.definers.by_index at.1 parts.0 tagged)
+    let tagged : tag_of l.numbers.now b.versions.now lists.Index at.0 ≡ Some index = ap (λ (k : ℕ). Some k) (eqb-true (index_of at.0.version) index parts.1) in
+    from_under l.definers.now.by_index.items es (pair l.key index) i under (listed b l lists.Index l.definers.now.by_index.items i index at.0 are are.definers.by_index at.1 parts.0 tagged)
 
-pub each_here : (b : Block) (es : List Entry) → IsBlock b → AreBetween b.definers.now.by_index.items (pair b.key 0) (end_of_name b.key) es → AreCandidates b picks.Each es
-each_here b es is between i holds =
+pub each_here : (b : Block) (l : Lists) (es : List Entry) → AreLists b l → AreBetween l.definers.now.by_index.items (pair l.key 0) (end_of_name l.key) es → AreCandidates b picks.Each es
+each_here b l es are between i holds =
     let at = symbol_at (Test b picks.Each) (slice_get b.object.now.symbols i) holds in
     let definer = defines_of b.object.now b.name.now b.class picks.Each at.0 at.2 in
     let tag = index_of at.0.version in
     let hidden : VERSYM_HIDDEN ≡ 32768 = refl in
     let some : 0 < VERSYM_HIDDEN = omega (arith, hidden) in
     let below : tag < VERSYM_HIDDEN = mod-lt at.0.version some in
-    let from : pair b.key 0 ≤ pair b.key tag = omega arith in
-    let to : pair b.key tag < end_of_name b.key = omega (arith, below) in
-    between.whole (pair b.key tag) i from to (listed b lists.Index b.definers.now.by_index.items i tag at.0 is is.definers.by_index at.1 definer refl)
+    let from : pair l.key 0 ≤ pair l.key tag = omega arith in
+    let to : pair l.key tag < end_of_name l.key = omega (arith, below) in
+    any_number (pair l.key tag) i es (between.whole (pair l.key tag) i from to (listed b l lists.Index l.definers.now.by_index.items i tag at.0 are are.definers.by_index at.1 definer refl))
 
-pub shown_here : (b : Block) (es : List Entry) → IsBlock b → AreUnder b.definers.now.shown.items (pair b.key 0) es → AreCandidates b picks.Shown es
+pub shown_here : (b : Block) (l : Lists) (es : List Entry) → AreLists b l → AreUnder l.definers.now.shown.items (pair l.key 0) es → AreCandidates b picks.Shown es
 unfolding counts
-shown_here b es is under i holds =
+shown_here b l es are under i holds =
     let at = symbol_at (Test b picks.Shown) (slice_get b.object.now.symbols i) holds in
     let parts = and_parts _ _ at.2 in
-    let tagged : tag_of b.numbers.now b.versions.now lists.Shown at.0 ≡ Some 0 = ap (λ (c : Bool). if c then Some 0 else None) parts.1 in
-    from_under b.definers.now.shown.items es (pair b.key 0) i under (listed b lists.Shown b.definers.now.shown.items i 0 at.0 is is.definers.shown at.1 parts.0 tagged)
+    let tagged : tag_of l.numbers.now b.versions.now lists.Shown at.0 ≡ Some 0 = ap (λ (c : Bool). if c then Some 0 else None) parts.1 in
+    from_under l.definers.now.shown.items es (pair l.key 0) i under (listed b l lists.Shown l.definers.now.shown.items i 0 at.0 are are.definers.shown at.1 parts.0 tagged)
+
+-- among all definers of the name is each that a step takes
+pub named_here : (b : Block) (pick : Pick) (es : List Entry) → HaveName b es → AreCandidates b pick es
+named_here b pick es have i holds =
+    let at = symbol_at (Test b pick) (slice_get b.object.now.symbols i) holds in
+    have i at.0 at.1 (defines_of b.object.now b.name.now b.class pick at.0 at.2)
 
 -- ---- those that have a version
 
@@ -89,16 +100,16 @@ version_is : (b : Block) (version : List ℕ) (s : Symbol) → has_version b.obj
 unfolding has_version
 version_is b version s has = version_is_by version (version_name b.object.now.versions s.version) has
 
-pub none_have : (b : Block) (version : List ℕ) → IsBlock b → key_of b.numbers.now version ≡ None → HaveVersion b version []
-none_have b version is none i s at definer has =
+pub none_have : (b : Block) (l : Lists) (version : List ℕ) → AreLists b l → key_of l.numbers.now version ≡ None → HaveVersion b version []
+none_have b l version are none i s at definer has =
     let n = named_by b.object.now b.name.now b.class s definer in
-    absurd (false≢true (subst (λ (x : Option ℕ). IsSome x) none (is.named i s version at n.definer (version_is b version s has))))
+    absurd (false≢true (subst (λ (x : Option ℕ). IsSome x) none (are.named i s version at n.definer (version_is b version s has))))
 
-pub version_here : (b : Block) (version : List ℕ) (key : ℕ) (es : List Entry) → IsBlock b → key_of b.numbers.now version ≡ Some key → AreUnder b.definers.now.by_version.items (pair b.key key) es → HaveVersion b version es
-version_here b version key es is known under i s at definer has =
-    let tagged : tag_of b.numbers.now b.versions.now lists.Version s ≡ Some key =
-    ap (λ (x : Option (List ℕ)). option_and_then (key_of b.numbers.now) x) (version_found b.object.now.versions b.versions.now s.version is.versions ∙ version_is b version s has) ∙ known in
-    from_under b.definers.now.by_version.items es (pair b.key key) i under (listed b lists.Version b.definers.now.by_version.items i key s is is.definers.by_version at definer tagged)
+pub version_here : (b : Block) (l : Lists) (version : List ℕ) (key : ℕ) (es : List Entry) → IsBlock b → AreLists b l → key_of l.numbers.now version ≡ Some key → AreUnder l.definers.now.by_version.items (pair l.key key) es → HaveVersion b version es
+version_here b l version key es is are known under i s at definer has =
+    let tagged : tag_of l.numbers.now b.versions.now lists.Version s ≡ Some key =
+    ap (λ (x : Option (List ℕ)). option_and_then (key_of l.numbers.now) x) (version_found b.object.now.versions b.versions.now s.version is.versions ∙ version_is b version s has) ∙ known in
+    from_under l.definers.now.by_version.items es (pair l.key key) i under (listed b l lists.Version l.definers.now.by_version.items i key s are are.definers.by_version at definer tagged)
 
 pub versions_here : (b : Block) (version : Pick) (name : List ℕ) (es : List Entry) → ((s : Symbol) → Test b version s ≡ (defines b.object.now b.name.now b.class s && has_version b.object.now name s)) → HaveVersion b name es → AreCandidates b version es
 versions_here b version name es is have i holds =

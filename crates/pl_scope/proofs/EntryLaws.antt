@@ -54,6 +54,12 @@ any_key key n es hit =
     let at = Any-from_list_any (is_entry key n) es hit in
     list_any_at (has_key key) es at.0 at.1 at.2 (ap (has_key key) at.3 ∙ (and_parts (at.1.key == key) (at.1.value == n) at.4).0)
 
+-- and one of the number
+pub any_number : (key n : ℕ) (es : List Entry) → list_any (is_entry key n) es ≡ true → list_any (has_value n) es ≡ true
+any_number key n es hit =
+    let at = Any-from_list_any (is_entry key n) es hit in
+    list_any_at (has_value n) es at.0 at.1 at.2 (ap (has_value n) at.3 ∙ (and_parts (at.1.key == key) (at.1.value == n) at.4).1)
+
 -- ---- the numbers alone
 
 pub any_value : (n : ℕ) (es : List Entry) → list_any (λ k. k == n) (values es) ≡ list_any (has_value n) es
@@ -77,7 +83,7 @@ module _ (es : List Entry) (low high i j : ℕ)
         absurd (omega (arith, le, ltb-true (get_or es j d).key low before, ltb-false (get_or es j d).key high after))
   ]
 
-  in_range : (key m : ℕ) → low ≤ key → key < high → list_any (is_entry key m) es ≡ true → list_any (has_value m) (take (j - i) (drop i es)) ≡ true
+  in_range : (key m : ℕ) → low ≤ key → key < high → list_any (is_entry key m) es ≡ true → list_any (is_entry key m) (take (j - i) (drop i es)) ≡ true
   in_range key m from to hit =
       let at = Any-from_list_any (is_entry key m) es hit in
       let k = at.0 in
@@ -97,7 +103,7 @@ module _ (es : List Entry) (low high i j : ℕ)
       let less : k - i < j - i = omega (arith, after, before) in
       let sum : i + (k - i) ≡ k = omega (arith, after) in
       let there : get_or (take (j - i) (drop i es)) (k - i) e ≡ e = get_or-take (j - i) (drop i es) (k - i) e less ∙ get_or-drop i es (k - i) e ∙ ap (λ (n : ℕ). get_or es n e) sum ∙ is in
-      list_any_at (has_value m) (take (j - i) (drop i es)) (k - i) e (omega (arith, less, within, after, length-take (j - i) (drop i es), length-drop i es)) (ap (has_value m) there ∙ parts.1)
+      list_any_at (is_entry key m) (take (j - i) (drop i es)) (k - i) e (omega (arith, less, within, after, length-take (j - i) (drop i es), length-drop i es)) (ap (is_entry key m) there ∙ at.4)
 
   pub are_between : AreBetween es low high (take (j - i) (drop i es))
   are_between = record {
@@ -107,4 +113,4 @@ module _ (es : List Entry) (low high i j : ℕ)
 
 -- those of one key
 pub from_under : (es found : List Entry) (key value : ℕ) → AreUnder es key found → list_any (is_entry key value) es ≡ true → list_any (has_value value) found ≡ true
-from_under es found key value is hit = is.whole key value (omega arith) (omega arith) hit
+from_under es found key value is hit = any_number key value found (is.whole key value (omega arith) (omega arith) hit)

@@ -18,6 +18,8 @@ pub mod WalkedLaws
 pub mod FoundLaws
 pub mod NumberLaws
 pub mod ScopeIndexLaws
+pub mod ShortIndexLaws
+pub mod SortedLaws
 pub mod IndexLaws
 pub mod FolderLaws
 pub mod KeptLaws

@@ -46,12 +46,12 @@ use Rattle.pl_scope.proofs.VersionIndexLaws.{version_by_index}
 
 -- ---- a list with one row more
 
-slice_left : {X : Type 0} (xs ys : List X) (i : ℕ) → i < length xs → slice_get (xs ++ ys) i ≡ slice_get xs i
+pub slice_left : {X : Type 0} (xs ys : List X) (i : ℕ) → i < length xs → slice_get (xs ++ ys) i ≡ slice_get xs i
 slice_left [] ys i lt = absurd (omega (arith, lt))
 slice_left (x ∷ xs) ys zero lt = refl
 slice_left (x ∷ xs) ys (suc i) lt = slice_left xs ys i (omega (arith, lt))
 
-slice_push : {X : Type 0} (xs : List X) (x : X) → slice_get (xs ++ x ∷ []) (length xs) ≡ Some x
+pub slice_push : {X : Type 0} (xs : List X) (x : X) → slice_get (xs ++ x ∷ []) (length xs) ≡ Some x
 slice_push [] x = refl
 slice_push (y ∷ ys) x = slice_push ys x
 
@@ -151,7 +151,7 @@ member_there numbers versions o d member i key s old new are added at definer kn
     let mine : list_any (is_entry (pair key tag) i) d.by_index.items ≡ true = are.by_index.whole i (pair key tag) (key_is numbers versions o lists.Index s.name key i tag s known at definer refl refl) in
     subst (λ (k : ℕ). list_any (is_entry k member) new ≡ true) (part_is key s.version) (added.there (pair key tag) (any_key (pair key tag) i d.by_index.items mine))
 
-same_object : (os : List Object) (m n : ℕ) (o p : Object) → n ≡ m → slice_get os n ≡ Some o → slice_get os m ≡ Some p → o ≡ p
+pub same_object : (os : List Object) (m n : ℕ) (o p : Object) → n ≡ m → slice_get os n ≡ Some o → slice_get os m ≡ Some p → o ≡ p
 same_object os m n o p same at here = let there : slice_get os n ≡ Some p = ap (slice_get os) same ∙ here in cc
 
 pub index_more : (os : List Object) (numbers : Numbers) (n : ℕ) (old new : List Entry) (own owns : List Own) (o : Object) (w : Own) → slice_get os n ≡ Some o → AreOwn numbers o w → IsMemberAdded w.definers.by_index.items n old new → owns ≡ own ++ w ∷ []
@@ -252,7 +252,7 @@ module _ (os : List Object) (name : List ℕ) (class : Class) (version : Option 
         never None m w low before = false≢true (sym w ∙ le-leb start m low)
         never (Some f) m w low before = false≢true (sym w ∙ rw (le-leb start m low, lt-ltb m f.member (before f refl)) refl)
 
-    asked_none : (es : List Entry) (e : Entry) (best : Option Found) → IsBest os name class version start es best → here e.value ≡ None → IsBest os name class version start (es ++ e ∷ []) best
+    pub asked_none : (es : List Entry) (e : Entry) (best : Option Found) → IsBest os name class version start es best → here e.value ≡ None → IsBest os name class version start (es ++ e ∷ []) best
     asked_none es e best is none = record {
       stands = is.stands;
       first = λ m low hit before.
@@ -356,6 +356,7 @@ index_own os index m o is at = record {
 
 pub way_at : (os : List Object) (way : Way) (m : ℕ) (o : Object) → IsWay os way → slice_get os m ≡ Some o → IsWayAt way m o
 way_at os ways.InOrder m o is at = tt
+way_at os (ways.Short index) m o is at = record { rising = is.definers.rising; definers = λ i key named. is.definers.whole m i key o at named; versions = is.versions m o at }
 way_at os (ways.Indexed index) m o is at = index_own os index.now m o is at
 way_at os (ways.Among among) m o is at = tt
 way_at os ways.InLists m o is at = tt

@@ -15,9 +15,9 @@ has_key key e = e.key == key
 abbrev pub has_value : ℕ → Entry → Bool
 has_value value e = e.value == value
 
--- entries that have all numbers under keys of a range, and no others than there were
+-- entries that have all that stand under keys of a range, and no others than there were
 pub record AreBetween (es : List Entry) (first end : ℕ) (found : List Entry) : Type 0 where
-  pub whole : (key value : ℕ) → first ≤ key → key < end → list_any (is_entry key value) es ≡ true → list_any (has_value value) found ≡ true
+  pub whole : (key value : ℕ) → first ≤ key → key < end → list_any (is_entry key value) es ≡ true → list_any (is_entry key value) found ≡ true
   pub among : (count : ℕ) → All (λ e. e.value < count) es → All (λ e. e.value < count) found
 
 -- the same of one key

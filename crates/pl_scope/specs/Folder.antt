@@ -7,13 +7,14 @@ use Rattle.pl_hash.specs.Hash.{gnu}
 use Rattle.pl_object.specs.declared.object.Object.{Object}
 use Rattle.pl_scope.specs.Index.{entries_of, entry_of, is_entry}
 use Rattle.pl_scope.specs.ScopeIndex.{HasOwn, IsIndex, best_of}
+use Rattle.pl_scope.specs.ShortIndex.{HasShort, IsShortIndex}
 use Rattle.pl_scope.specs.declared.entries.Entry.{Entry as Placed}
 use Rattle.pl_scope.specs.declared.folder.Among.{Among}
 use Rattle.pl_scope.specs.declared.found.Found.{Found}
 use Rattle.pl_scope.specs.declared.index.Entry.{Entry}
 use Rattle.pl_scope.specs.declared.lookup.Way.{Way}
 use Rattle.pl_scope.specs.declared.lookup.Way.TheVariants as ways
-use Rattle.pl_scope.specs.declared.lookup.Way.TheVariants.{InOrder, Indexed, InLists}
+use Rattle.pl_scope.specs.declared.lookup.Way.TheVariants.{InOrder, Short, Indexed, InLists}
 use Rattle.pl_scope.specs.declared.wanted.Wanted.{Wanted}
 use Rattle.pl_sym.specs.Definers.{is_definer}
 use Rattle.pl_sym.specs.declared.class.Class.TheVariants.{Other}
@@ -81,6 +82,7 @@ best_at objects w start best (Some member) = best_of objects w.name.now w.class 
 -- where an index is used it is that of the scope, or of the folder whose objects the scope has
 abbrev pub IsWay : List Object → Way → Type 0
 IsWay objects InOrder = ⊤
+IsWay objects (Short index) = IsShortIndex objects index.now
 IsWay objects (Indexed index) = IsIndex objects index.now
 IsWay objects (ways.Among among) = IsIndexAmong objects among.now
 IsWay objects InLists = ⊤
@@ -88,6 +90,7 @@ IsWay objects InLists = ⊤
 -- where an index of the scope is used it has what is a member's own
 abbrev pub IsWayAt : Way → ℕ → Object → Type 0
 IsWayAt InOrder member o = ⊤
+IsWayAt (Short index) member o = HasShort index.now member o
 IsWayAt (Indexed index) member o = HasOwn index.now member o
 IsWayAt (ways.Among among) member o = ⊤
 IsWayAt InLists member o = ⊤

@@ -4,10 +4,14 @@ use Rattle.std.specs.Option.{ForSome, option_and_then}
 use Rattle.pl_elf.specs.declared.constants.TheConstants.{R_X86_64_COPY, R_X86_64_JUMP_SLOT}
 use Rattle.pl_object.specs.declared.object.Object.{Object}
 use Rattle.pl_scope.specs.Finds.{finds}
+use Rattle.pl_scope.specs.Folder.{IsWay}
 use Rattle.pl_scope.specs.ScopeIndex.{IsIndex}
 use Rattle.pl_scope.specs.declared.answers.Answers.{Answers}
-use Rattle.pl_scope.specs.declared.scope_index.ScopeIndex.{ScopeIndex}
+use Rattle.pl_scope.specs.ShortIndex.{IsShortIndex}
+use Rattle.pl_scope.specs.declared.kept.KeptIndex.{KeptIndex}
+use Rattle.pl_scope.specs.declared.kept.KeptIndex.TheVariants as indexes
 use Rattle.pl_scope.specs.declared.found.Found.{Found}
+use Rattle.pl_scope.specs.declared.lookup.Way.{Way}
 
 -- nothing was asked yet
 abbrev pub unasked : Answers
@@ -41,7 +45,16 @@ pub record IsKept (objects : List Object) (rows : List (List Answers)) : Type 0 
 abbrev pub unasked_row : Object → List Answers
 unasked_row o = replicate (length o.symbols) unasked
 
--- beside the answers, the definers of all members by keys of their names
-pub record IsKeeping (objects : List Object) (definers : ScopeIndex) (answers : List (List Answers)) : Type 0 where
-  pub index : IsIndex objects definers
+-- the definers of all members
+abbrev pub IsKeptIndex : List Object → KeptIndex → Type 0
+IsKeptIndex objects (indexes.Short index) = IsShortIndex objects index
+IsKeptIndex objects (indexes.Lists index) = IsIndex objects index
+
+-- a way to search objects whose definers an index has
+abbrev pub IsWayBy : KeptIndex → Way → Type 0
+IsWayBy index way = (objects : List Object) → IsKeptIndex objects index → IsWay objects way
+
+-- beside the answers, the definers of all members
+pub record IsKeeping (objects : List Object) (definers : KeptIndex) (answers : List (List Answers)) : Type 0 where
+  pub index : IsKeptIndex objects definers
   pub rows : IsKept objects answers

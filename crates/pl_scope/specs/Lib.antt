@@ -12,5 +12,7 @@ pub mod Definers
 pub mod Block
 pub mod Index
 pub mod ScopeIndex
+pub mod ShortIndex
+pub mod Sorted
 pub mod Folder
 pub mod Kept

@@ -5,6 +5,7 @@ use Rattle.pl_object.specs.PlaceClauses.{is_bad}
 use Rattle.pl_object.specs.Reads.{reads}
 use Rattle.pl_object.specs.SymbolClauses.{hash_incomplete}
 use Rattle.pl_object.specs.declared.object.Object.{Object}
+use Rattle.pl_object.specs.declared.reloc.Reloc.{Reloc}
 use Rattle.pl_scope.specs.Walk.{Walked}
 use Rattle.pl_scope.specs.declared.constants.TheConstants.{MAX_MEMBERS}
 use Rattle.pl_scope.specs.declared.member.Member.{Member}
@@ -51,3 +52,7 @@ pub record IsSymbol (objects : List Object) (m s : ℕ) : Type 0 where
 -- a reference is by a symbol of its member
 abbrev pub IsReference : Walked → Reference → Type 0
 IsReference members r = IsSymbol (objects members) r.member r.symbol
+
+-- the relocations of a member are by its symbols
+abbrev pub AreReferences : Walked → ℕ → List Reloc → Type 0
+AreReferences members m relocs = All (λ r. IsSymbol (objects members) m r.symbol) relocs

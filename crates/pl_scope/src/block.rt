@@ -20,19 +20,36 @@ use pl_object::Object;
 use pl_sym::{Class, Symbol};
 use pl_ver::constants::{VER_NDX_GLOBAL, VER_NDX_LOCAL, VERSYM_HIDDEN};
 
-/// An object with the lists of its definers, which are searched for a name, for references of a class. The lists and the versions are those of the object by these keys of names, and the name of the version of each definer has a key.
+/// The lists of an object's definers by keys of names, and the key that the name has. The name of the version of each definer has a key too.
+#[derive(Clone, Copy)]
+pub struct Lists<'b, 'a> {
+    /// The key of the name.
+    pub key: u32,
+
+    pub definers: &'b Definers,
+    pub numbers: &'b Numbers<'a>,
+}
+
+/// Where the definers of a name are.
+#[derive(Clone, Copy)]
+pub enum Place<'b, 'a> {
+    /// In lists, of which each step takes those under a key.
+    Lists(Lists<'b, 'a>),
+
+    /// Among these symbols.
+    Among(&'b [Entry]),
+}
+
+/// An object that is searched for a name, for references of a class. The versions and the definers of the name are those of the object.
 #[derive(Clone, Copy)]
 pub struct Block<'b, 'a> {
     pub object: &'b Object,
     pub name: &'b [u8],
     pub class: Class,
-
-    /// The key of the name.
-    pub key: u32,
-
-    pub definers: &'b Definers,
     pub versions: &'b VersionIndex<'a>,
-    pub numbers: &'b Numbers<'a>,
+
+    /// Where the definers of the name are.
+    pub place: Place<'b, 'a>,
 }
 
 /// The name of the version that a version word of the object stands for.
@@ -88,53 +105,69 @@ fn picks(block: &Block<'_, '_>, pick: Pick<'_>, index: u32) -> bool
 }
 
 /// The definers of the name whose version has an index.
-fn of_index<'b>(block: &Block<'b, '_>, index: u16) -> &'b [Entry]
-    requires { spec.IsBlock block.now }
-    ensures { entries.AreUnder block.now.definers.now.by_index.items
-        (definers.pair block.now.key index) result.now }
+fn of_index<'b>(lists: &Lists<'b, '_>, index: u16) -> &'b [Entry]
+    requires { spec.AreRising lists.now.definers.now }
+    ensures { entries.AreUnder lists.now.definers.now.by_index.items
+        (definers.pair lists.now.key index) result.now }
 {
-    let key = pair(block.key, u32::from(index));
-    under(block.definers.by_index.as_slice(), key)
+    let key = pair(lists.key, u32::from(index));
+    under(lists.definers.by_index.as_slice(), key)
 }
 
 /// All definers of the name. The index of a version is less than `VERSYM_HIDDEN`.
-fn of_name<'b>(block: &Block<'b, '_>) -> &'b [Entry]
-    requires { spec.IsBlock block.now }
-    ensures { entries.AreBetween block.now.definers.now.by_index.items
-        (definers.pair block.now.key 0) (spec.end_of_name block.now.key) result.now }
+fn of_name<'b>(lists: &Lists<'b, '_>) -> &'b [Entry]
+    requires { spec.AreRising lists.now.definers.now }
+    ensures { entries.AreBetween lists.now.definers.now.by_index.items
+        (definers.pair lists.now.key 0) (spec.end_of_name lists.now.key) result.now }
 {
-    let first = u128::from(pair(block.key, 0));
-    let end = u128::from(pair(block.key, u32::from(VERSYM_HIDDEN)));
-    between(block.definers.by_index.as_slice(), first, end)
+    let first = u128::from(pair(lists.key, 0));
+    let end = u128::from(pair(lists.key, u32::from(VERSYM_HIDDEN)));
+    between(lists.definers.by_index.as_slice(), first, end)
 }
 
 /// The definers of the name that are not hidden.
-fn shown<'b>(block: &Block<'b, '_>) -> &'b [Entry]
-    requires { spec.IsBlock block.now }
-    ensures { entries.AreUnder block.now.definers.now.shown.items (definers.pair block.now.key 0)
+fn shown<'b>(lists: &Lists<'b, '_>) -> &'b [Entry]
+    requires { spec.AreRising lists.now.definers.now }
+    ensures { entries.AreUnder lists.now.definers.now.shown.items (definers.pair lists.now.key 0)
         result.now }
 {
-    under(block.definers.shown.as_slice(), pair(block.key, 0))
+    under(lists.definers.shown.as_slice(), pair(lists.key, 0))
 }
 
 /// The definers of the name under the key of a version.
-fn under_version<'b>(block: &Block<'b, '_>, key: u32) -> &'b [Entry]
-    requires { spec.IsBlock block.now }
-    ensures { entries.AreUnder block.now.definers.now.by_version.items
-        (definers.pair block.now.key key) result.now }
+fn under_version<'b>(lists: &Lists<'b, '_>, key: u32) -> &'b [Entry]
+    requires { spec.AreRising lists.now.definers.now }
+    ensures { entries.AreUnder lists.now.definers.now.by_version.items
+        (definers.pair lists.now.key key) result.now }
 {
-    let key = pair(block.key, key);
-    under(block.definers.by_version.as_slice(), key)
+    let key = pair(lists.key, key);
+    under(lists.definers.by_version.as_slice(), key)
 }
 
 /// Symbols among which are all definers of the name that have a version.
-fn of_version<'b>(block: &Block<'b, '_>, version: &[u8]) -> &'b [Entry]
-    requires { spec.IsBlock block.now }
+fn of_version<'b>(block: &Block<'b, '_>, lists: &Lists<'b, '_>, version: &[u8]) -> &'b [Entry]
+    requires block { spec.IsBlock block.now }
+    requires lists { spec.AreLists block.now lists.now }
     ensures { spec.HaveVersion block.now version.now result.now }
 {
-    match block.numbers.key_of(version, gnu_hash(version)) {
+    match lists.numbers.key_of(version, gnu_hash(version)) {
         None => &[],
-        Some(key) => under_version(block, key),
+        Some(key) => under_version(lists, key),
+    }
+}
+
+/// Symbols in lists among which are all that a step takes.
+fn listed<'b>(block: &Block<'b, '_>, lists: &Lists<'b, '_>, pick: Pick<'_>) -> &'b [Entry]
+    requires block { spec.IsBlock block.now }
+    requires lists { spec.AreLists block.now lists.now }
+    ensures { spec.AreCandidates block.now pick.entry result.now }
+{
+    match pick {
+        Pick::Version(version) => of_version(block, lists, version),
+        Pick::Plain => of_index(lists, VER_NDX_GLOBAL),
+        Pick::Index(index) => of_index(lists, index),
+        Pick::Each => of_name(lists),
+        Pick::Shown => shown(lists),
     }
 }
 
@@ -143,12 +176,9 @@ fn candidates<'b>(block: &Block<'b, '_>, pick: Pick<'_>) -> &'b [Entry]
     requires { spec.IsBlock block.now }
     ensures { spec.AreCandidates block.now pick.entry result.now }
 {
-    match pick {
-        Pick::Version(version) => of_version(block, version),
-        Pick::Plain => of_index(block, VER_NDX_GLOBAL),
-        Pick::Index(index) => of_index(block, index),
-        Pick::Each => of_name(block),
-        Pick::Shown => shown(block),
+    match block.place {
+        Place::Among(among) => among,
+        Place::Lists(lists) => listed(block, &lists, pick),
     }
 }
 

@@ -19,7 +19,7 @@ pub fn sort_entries(entries: &mut Vec<Entry>)
 }
 
 /// How many of the entries, which rise, have lower keys than a number.
-fn before(entries: &[Entry], key: u128) -> usize
+pub fn before(entries: &[Entry], key: u128) -> usize
     requires { IsNonDecreasingBy (λ e. e.key) entries.now }
     ensures bound { result ≤ length entries.now }
     ensures point { IsPartitionPoint (λ e. nat_lt e.key key ≡ true)

@@ -7,11 +7,22 @@ ghost use Rattle.pl_scope.specs.Kept as spec;
 use crate::answers::Answers;
 use crate::lookup::{Way, find_by};
 use crate::scope_index::{ScopeIndex, index_of};
+use crate::short_index::{ShortIndex, short_index_of};
 use crate::{Found, Reference, Scope};
 use pl_io::NoMemory;
 use pl_object::Object;
 use std::alloc::{AllocError, Global};
 use std::marker::Model;
+
+/// The definers of all members.
+#[derive(Drop)]
+pub enum KeptIndex<'a> {
+    /// In one list, where few share a hash.
+    Short(ShortIndex<'a>),
+
+    /// In lists for each member.
+    Lists(ScopeIndex<'a>),
+}
 
 /// The look-ups of a scope whose answers are kept: one place for each member, symbol and class of relocations (JUMP_SLOT, COPY, every other). An index of the definers of all members, by keys of their names, tells a first look-up which members to ask, and which of their symbols. Contracts see it as the scope.
 #[derive(Drop)]
@@ -19,7 +30,7 @@ pub struct Kept<'s, 'a> {
     scope: &'s Scope<'a>,
 
     /// The definers of all members.
-    index: ScopeIndex<'a>,
+    index: KeptIndex<'a>,
 
     rows: Vec<Vec<Answers>>,
 }
@@ -35,6 +46,26 @@ impl<'s, 'a> Model for Kept<'s, 'a> {
     ghost view = { λ k. k.scope.now };
 
     ghost invariant = { λ k. IsKeeping (objects k.scope.now) k.index (map (λ row. row.items) k.rows.items) };
+}
+
+/// The definers of all members, in one list where few share a hash.
+fn kept_index<'a>(alloc: Global, scope: &Scope<'a>) -> Result<KeptIndex<'a>, AllocError>
+    ensures { IfOk result (spec.IsKeptIndex (objects scope.now)) }
+{
+    match short_index_of(alloc, scope)? {
+        None => Ok(KeptIndex::Lists(index_of(alloc, scope)?)),
+        Some(short) => Ok(KeptIndex::Short(short)),
+    }
+}
+
+/// The way to search the members by an index.
+fn way_by<'i, 'a>(index: &'i KeptIndex<'a>) -> Way<'i, 'a>
+    ensures { spec.IsWayBy index.now result }
+{
+    match index {
+        KeptIndex::Short(short) => Way::Short(short),
+        KeptIndex::Lists(lists) => Way::Indexed(lists),
+    }
 }
 
 fn unasked_row(alloc: Global, object: &Object) -> Result<Vec<Answers>, AllocError>
@@ -71,7 +102,7 @@ impl<'s, 'a> Kept<'s, 'a> {
     pub fn new(alloc: Global, scope: &'s Scope<'a>) -> Result<Kept<'s, 'a>, NoMemory>
         ensures { IfOk result (λ kept. kept ≡ scope.now) }
     {
-        let index = index_of(alloc, scope)?;
+        let index = kept_index(alloc, scope)?;
         let rows = unasked_rows(alloc, scope)?;
         Ok(Kept { scope, index, rows })
     }
@@ -95,7 +126,7 @@ impl<'s, 'a> Kept<'s, 'a> {
         if let Some(found) = answers.of(reference.kind) {
             return found;
         }
-        let found = find_by(self.scope, reference, Way::Indexed(&self.index));
+        let found = find_by(self.scope, reference, way_by(&self.index));
         keep(self.scope, &mut self.rows, reference, found);
         found
     }

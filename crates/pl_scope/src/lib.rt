@@ -21,6 +21,8 @@ mod probe;
 mod reference;
 mod scope;
 mod scope_index;
+mod short_index;
+mod sorted;
 mod version_index;
 mod walks;
 mod wanted;

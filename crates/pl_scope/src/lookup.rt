@@ -8,13 +8,16 @@ ghost use Rattle.pl_scope.specs.Scope.{objects, IsFit, IsReference, IsSymbol};
 ghost use Rattle.pl_scope.specs.Probing as probing;
 ghost use Rattle.pl_scope.specs.Folder as folder;
 ghost use Rattle.pl_scope.specs.ScopeIndex as index;
+ghost use Rattle.pl_scope.specs.ShortIndex as short;
 ghost use Rattle.pl_scope.specs.Finds as spec;
 
-use crate::block::{Block, matching_in_block};
+use crate::block::{Block, Lists, Place, matching_in_block};
+use crate::entries::Entry;
 use crate::folder::{Among, position_of};
 use crate::matching::{defines, matching};
 use crate::probe::matching_by_table;
 use crate::scope_index::{ScopeIndex, members_under, own_at};
+use crate::short_index::{ShortIndex, member_of, mixed, of_member, under_hash, versions_at};
 use crate::wanted::{Wanted, wanted_by};
 use crate::{Found, Reference, Scope};
 use pl_elf::constants::R_X86_64_COPY;
@@ -29,6 +32,9 @@ use pl_ver::index_of;
 pub enum Way<'i, 'a> {
     /// One after the other, each by a table.
     InOrder,
+
+    /// Those that have a definer under the name's hash, by one list of the scope, each through its own definers under that hash.
+    Short(&'i ShortIndex<'a>),
 
     /// Those that have a definer under the name's key, by an index of the scope, each through its own definers under that key.
     Indexed(&'i ScopeIndex<'a>),
@@ -141,10 +147,36 @@ fn matching_by_index(
         object,
         name: wanted.name,
         class: wanted.class,
-        key,
-        definers: &own.definers,
         versions: &own.versions,
-        numbers: &definers.numbers,
+        place: Place::Lists(Lists {
+            key,
+            definers: &own.definers,
+            numbers: &definers.numbers,
+        }),
+    };
+    matching_in_block(&block, wanted.version)
+}
+
+/// The index of a member's symbol that matches, by one list of the scope, among the member's own definers under the name's hash.
+fn matching_by_short(
+    object: &Object,
+    wanted: &Wanted<'_>,
+    member: u32,
+    definers: &ShortIndex<'_>,
+) -> Option<u32>
+    requires wanted { probing.IsWanted wanted.now }
+    requires own { short.HasShort definers.now member object.now }
+    ensures { result ≡ matching object.now wanted.now.name.now wanted.now.class
+        (option_map (λ x. x.now) wanted.now.version) }
+{
+    let versions = versions_at(definers, member);
+    let among = of_member(definers, mixed(wanted.gnu), member);
+    let block = Block {
+        object,
+        name: wanted.name,
+        class: wanted.class,
+        versions,
+        place: Place::Among(among),
     };
     matching_in_block(&block, wanted.version)
 }
@@ -161,6 +193,7 @@ fn in_member(scope: &Scope<'_>, wanted: &Wanted<'_>, member: u32, way: Way<'_, '
     let object = scope.object(member);
     let matched = match way {
         Way::InLists => matching_by_list(object, wanted),
+        Way::Short(definers) => matching_by_short(object, wanted, member, definers),
         Way::Indexed(definers) => matching_by_index(object, wanted, member, definers),
         _ => matching_by_hash(object, wanted),
     };
@@ -250,6 +283,47 @@ fn first_indexed(
 }
 
 /// The matching definer of an entry's member, where the scope has it and it is better than what was found, which else stays.
+fn best_under(
+    scope: &Scope<'_>,
+    wanted: &Wanted<'_>,
+    start: u32,
+    best: Option<Found>,
+    entry: &Entry,
+    definers: &ShortIndex<'_>,
+) -> Option<Found>
+    requires wanted { probing.IsWanted wanted.now }
+    requires index { short.IsShortIndex (objects scope.now) definers.now }
+    ensures { result ≡ short.best_under (objects scope.now) wanted.now start best entry.now }
+{
+    let member = member_of(entry);
+    let count = scope.count();
+    if member < count {
+        best_of(scope, wanted, start, best, member, Way::Short(definers))
+    } else {
+        best
+    }
+}
+
+/// The matching definer of the first member from one on that has one, where only the members are asked that have a definer under the name's hash.
+fn first_short(
+    scope: &Scope<'_>,
+    wanted: &Wanted<'_>,
+    start: u32,
+    definers: &ShortIndex<'_>,
+) -> Option<Found>
+    requires wanted { probing.IsWanted wanted.now }
+    requires index { short.IsShortIndex (objects scope.now) definers.now }
+    ensures { result ≡ spec.first_match scope.now wanted.now start }
+{
+    let count = scope.count();
+    let mut best = None;
+    for entry in under_hash(definers, mixed(wanted.gnu), count) {
+        best = best_under(scope, wanted, start, best, entry, definers);
+    }
+    best
+}
+
+/// The matching definer of an entry's member, where the scope has it and it is better than what was found, which else stays.
 fn best_at(
     scope: &Scope<'_>,
     wanted: &Wanted<'_>,
@@ -296,6 +370,7 @@ fn first_from(scope: &Scope<'_>, wanted: &Wanted<'_>, start: u32, way: Way<'_, '
     ensures { result ≡ spec.first_match scope.now wanted.now start }
 {
     match way {
+        Way::Short(definers) => first_short(scope, wanted, start, definers),
         Way::Indexed(definers) => first_indexed(scope, wanted, start, definers),
         Way::Among(among) => first_among(scope, wanted, start, among),
         _ => first_in_order(scope, wanted, start, way),
@@ -339,12 +414,22 @@ fn version_by_index<'a>(definers: &ScopeIndex<'a>, member: u32, word: u16) -> Op
     own.versions.name_of(word)
 }
 
+/// The name of the version that a version word of a member stands for, by one list of the scope.
+fn version_by_short<'a>(definers: &ShortIndex<'a>, member: u32, word: u16) -> Option<&'a [u8]>
+    requires { member < vec_len definers.now.versions }
+    ensures { short.IsVersionAt definers.now member word (option_map (λ name. name.now) result) }
+{
+    let versions = versions_at(definers, member);
+    versions.name_of(word)
+}
+
 /// The name of the version that a version word of a member stands for.
 fn version_by<'a>(object: &'a Object, member: u32, word: u16, way: Way<'_, 'a>) -> Option<&'a [u8]>
     requires { folder.IsWayAt way member object.now }
     ensures { option_map (λ name. name.now) result ≡ version_name object.now.versions word }
 {
     match way {
+        Way::Short(definers) => version_by_short(definers, member, word),
         Way::Indexed(definers) => version_by_index(definers, member, word),
         _ => version_name(&object.versions, word),
     }

@@ -1,36 +1,17 @@
-use Rattle.std.proofs.Common.{refl, sym, subst}
-use Rattle.pl_scope.specs.Block.{AreCandidates}
-use Rattle.pl_scope.specs.declared.probe.Pick.{Pick}
-use Rattle.pl_scope.specs.declared.probe.Pick.TheVariants as picks
-use Rattle.pl_scope.proofs.BlockLaws.{each_here, index_here, plain_here, shown_here, versions_here}
+use Rattle.std.proofs.Common.{sym, subst}
+use Rattle.pl_scope.specs.Block.{HaveName, IsPlace}
+use Rattle.pl_scope.specs.declared.block.Place.{Place}
+use Rattle.pl_scope.proofs.BlockLaws.{named_here}
 use Rattle.pl_scope.proofs.block.candidates.Goals as goal
 
-pub returns-in-Version : goal.returns-in-Version
-returns-in-Version c =
+pub returns-in-Among : goal.returns-in-Among
+returns-in-Among c =
     let block = c.args.block.now in
-    let es = c.of_version.result.now in
-    subst (λ (p : Pick). AreCandidates block p es) (sym c.in-Version.is) (versions_here block (picks.Version c.in-Version.version) c.in-Version.version.now es (λ s. refl) c.of_version.ensures)
+    let have : HaveName block c.in-Among.among.now = subst (λ (p : Place). IsPlace block p) c.in-Among.is c.requires.place in
+    named_here block c.args.pick c.in-Among.among.now have
 
-pub returns-in-Plain : goal.returns-in-Plain
-returns-in-Plain c =
-    let block = c.args.block.now in
-    let es = c.of_index.result.now in
-    subst (λ (p : Pick). AreCandidates block p es) (sym c.in-Plain.is) (plain_here block es c.requires c.of_index.ensures)
+pub listed-requires-clause-block : goal.listed-requires-clause-block
+listed-requires-clause-block c = c.requires
 
-pub returns-in-Index : goal.returns-in-Index
-returns-in-Index c =
-    let block = c.args.block.now in
-    let es = c.of_index-in-Index.result.now in
-    subst (λ (p : Pick). AreCandidates block p es) (sym c.in-Index.is) (index_here block c.in-Index.index es c.requires c.of_index-in-Index.ensures)
-
-pub returns-in-Each : goal.returns-in-Each
-returns-in-Each c =
-    let block = c.args.block.now in
-    let es = c.of_name.result.now in
-    subst (λ (p : Pick). AreCandidates block p es) (sym c.in-Each.is) (each_here block es c.requires c.of_name.ensures)
-
-pub returns-in-Shown : goal.returns-in-Shown
-returns-in-Shown c =
-    let block = c.args.block.now in
-    let es = c.shown.result.now in
-    subst (λ (p : Pick). AreCandidates block p es) (sym c.in-Shown.is) (shown_here block es c.requires c.shown.ensures)
+pub listed-requires-clause-lists : goal.listed-requires-clause-lists
+listed-requires-clause-lists c = subst (λ (p : Place). IsPlace c.args.block.now p) c.in-Lists.is c.requires.place

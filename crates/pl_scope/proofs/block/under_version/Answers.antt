@@ -5,9 +5,9 @@ use Rattle.pl_scope.specs.declared.entries.Entry.{Entry}
 use Rattle.pl_scope.proofs.block.under_version.Goals as goal
 
 pub under-requires : goal.under-requires
-under-requires c = subst (λ (es : List Entry). IsNonDecreasingBy (λ e. e.key) es) (sym c.as_slice.ensures.value) c.requires.definers.by_version.rising
+under-requires c = subst (λ (es : List Entry). IsNonDecreasingBy (λ e. e.key) es) (sym c.as_slice.ensures.value) c.requires.by_version
 
 pub returns : goal.returns
 returns c =
-    subst (λ (k : ℕ). AreUnder c.args.block.now.definers.now.by_version.items k c.under.result.now) c.pair-key.ensures
+    subst (λ (k : ℕ). AreUnder c.args.lists.now.definers.now.by_version.items k c.under.result.now) c.pair-key.ensures
     (subst (λ (es : List Entry). AreUnder es c.pair-key.result c.under.result.now) c.as_slice.ensures.value c.under.ensures)

@@ -9,3 +9,8 @@ pub matching_by_index-matched-requires-clause-own : goal.matching_by_index-match
 matching_by_index-matched-requires-clause-own c =
     let o = c.object-object.result.now in
     subst (λ (w : Way). IsWayAt w c.args.member o) c.in-Indexed.is (way_at (objects c.args.scope.now) c.args.way c.args.member o c.requires.way c.object-object.ensures.object)
+
+pub matching_by_short-matched-requires-clause-own : goal.matching_by_short-matched-requires-clause-own
+matching_by_short-matched-requires-clause-own c =
+    let o = c.object-object.result.now in
+    subst (λ (w : Way). IsWayAt w c.args.member o) c.in-Short.is (way_at (objects c.args.scope.now) c.args.way c.args.member o c.requires.way c.object-object.ensures.object)

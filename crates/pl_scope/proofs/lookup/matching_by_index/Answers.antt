@@ -16,7 +16,9 @@ matching_in_block-requires c =
     let own = c.own_at-own.ensures c.args.object.now c.requires.own in
     record {
       versions = own.named;
-      definers = own.listed;
-      keyed = sym c.key_of.ensures ∙ c.in-Some.is;
-      named = λ i s version at definer is. version_keyed c.args.definers.now c.args.member c.args.object.now s.version version c.requires.own is;
+      place = record {
+        definers = own.listed;
+        keyed = sym c.key_of.ensures ∙ c.in-Some.is;
+        named = λ i s version at definer is. version_keyed c.args.definers.now c.args.member c.args.object.now s.version version c.requires.own is;
+      };
     }

@@ -40,3 +40,6 @@ pub returns-clause-within : goal.returns-clause-within
 returns-clause-within c =
     let view : c.self.inside.scope.now ≡ c.args.self.now = c.self.view_is in
     found_within (objects c.args.self.now) c.args.reference c.find_by-found.result (c.find_by-found.ensures ∙ ap (λ (w : Walked). finds (objects w) c.args.reference) view)
+
+pub find_by-found-requires-clause-way : goal.find_by-found-requires-clause-way
+find_by-found-requires-clause-way c = c.way_by.ensures (objects c.self.inside.scope.now) c.self.invariant.index

@@ -1,0 +1,1 @@
+use Rattle.pl_scope.proofs.kept.way_by.Goals as goal
