@@ -166,8 +166,7 @@ fn matching_by_short(
 ) -> Option<u32>
     requires wanted { probing.IsWanted wanted.now }
     requires own { short.HasShort definers.now member object.now }
-    ensures { result ≡ matching object.now wanted.now.name.now wanted.now.class
-        (option_map (λ x. x.now) wanted.now.version) }
+    ensures { result ≡ probing.matching_for object.now wanted.now }
 {
     let versions = versions_at(definers, member);
     let among = of_member(definers, mixed(wanted.gnu), member);
