@@ -137,8 +137,7 @@ fn are_apart(alloc: Global, numbered: &Numbered<'_>, walk: &[u32]) -> Result<boo
     ensures { IfOk result (λ b. b ≡ not (windows_by.any_share
         (flat_map (spec.windows_of numbered.now) walk.now))) }
 {
-    let windows = windows(alloc, numbered, walk)?;
-    Ok(!any_share(windows))
+    Ok(!any_share(windows(alloc, numbered, walk)?))
 }
 
 /// Whether the members of the walk of a row can be prelinked together: their numbers are such as they may have, what they take up has no address in common, and the names of those after the first are valid.

@@ -77,7 +77,6 @@ fn put_first(alloc: Global, bytes: &[u8], first: &[u8]) -> Result<Vec<u8>, Alloc
     Ok(all)
 }
 
-/// What is asked of a program's places.
 #[derive(Clone, Copy)]
 struct Filling<'t> {
     numbered: &'t Numbered<'t>,

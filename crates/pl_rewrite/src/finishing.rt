@@ -52,7 +52,6 @@ fn put(alloc: Global, name: &str, old: &[u8], bytes: Vec<u8>) -> Result<Option<C
     }))
 }
 
-/// The row that gives a file its original; None where it is its own.
 fn put_original(alloc: Global, taken: &Taken) -> Result<Option<Change>, AllocError>
     requires { HasItsEntry taken.now }
     ensures { IfOk result (λ row. row ≡ told.put_original taken.now) }

@@ -13,7 +13,6 @@ use pl_form::{digest_of, original_digest};
 use pl_lists::ListRow;
 use std::alloc::{AllocError, Global};
 
-/// The SHA-256 of originals, by their rows, where they are asked for; each is made once.
 pub type Digests = Vec<Option<[u8; 32]>>;
 
 /// The SHA-256 of a file's original, if it is asked for. That of a prelinked file is not made again where the file keeps it.
@@ -57,7 +56,6 @@ pub fn digest_at(numbered: &Numbered<'_>, row: usize) -> [u8; 32]
     }
 }
 
-/// The checksum of a row's original; a prelinked library bears it.
 fn checksum_at(numbered: &Numbered<'_>, row: usize) -> u32
     requires numbered { spec.IsNumbered numbered.now }
     requires row { row < length numbered.now.files.now }

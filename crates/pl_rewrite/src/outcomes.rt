@@ -172,7 +172,6 @@ fn program_if(
     }
 }
 
-/// What a run makes of all stale programs, by their rows; None of every other row.
 fn program_outcomes(
     alloc: Global,
     work: &Work<'_>,
@@ -233,7 +232,6 @@ fn with_libraries(
     Ok(all)
 }
 
-/// What a run makes of the stale files, by their rows; None of the others.
 fn made_of(
     alloc: Global,
     numbered: &Numbered<'_>,
@@ -258,7 +256,6 @@ fn made_of(
     with_libraries(alloc, numbered, stale, row_words, programs)
 }
 
-/// What is made of each file, by the causes of all rows and what was made of some.
 fn all_outcomes(
     alloc: Global,
     files: &[Taken],

@@ -66,7 +66,8 @@ fn form_of(
     ensures { IfOk result (contents.IsProgramForm work.now row version made) }
 {
     let numbered = work.numbered;
-    let taken = &numbered.files[row];
+    let files = numbered.files;
+    let taken = &files[row];
     let Some(object) = taken.object() else {
         return Ok(None);
     };

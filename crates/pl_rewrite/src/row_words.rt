@@ -46,7 +46,6 @@ pub struct Needed<'t> {
     pub held: &'t [bool],
 }
 
-/// Flags rows.
 pub fn flag_all(flags: &mut [bool], rows: &[u32])
     requires { AreBelow (length flags.old) rows.now }
     ensures { flags_by.FlagsAll rows.now flags.old flags.new }

@@ -30,16 +30,24 @@ fn slot_borne(taken: &Taken) -> u64
     }
 }
 
-fn slots_borne(alloc: Global, files: &[Taken]) -> Result<Vec<u64>, AllocError>
-    ensures { IfOk result (λ v. v.items ≡ map spec.slot_borne files.now) }
+fn slots_borne(alloc: Global, files: &[Taken]) -> Result<Rows<u64>, AllocError>
+    ensures { IfOk result (λ v. v ≡ map spec.slot_borne files.now) }
 {
-    files.iter().map(slot_borne).collect(alloc)
+    let mut slots = Rows::new(alloc);
+    for taken in files {
+        slots.push(slot_borne(taken))?;
+    }
+    Ok(slots)
 }
 
-fn stamps_borne(alloc: Global, files: &[Taken]) -> Result<Vec<u32>, AllocError>
-    ensures { IfOk result (λ v. v.items ≡ map old_stamp files.now) }
+fn stamps_borne(alloc: Global, files: &[Taken]) -> Result<Rows<u32>, AllocError>
+    ensures { IfOk result (λ v. v ≡ map old_stamp files.now) }
 {
-    files.iter().map(|taken| taken.stamp()).collect(alloc)
+    let mut stamps = Rows::new(alloc);
+    for taken in files {
+        stamps.push(taken.stamp())?;
+    }
+    Ok(stamps)
 }
 
 fn are_marked(files: &[Taken], walk: &[u32]) -> bool

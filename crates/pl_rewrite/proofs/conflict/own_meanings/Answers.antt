@@ -1,13 +1,13 @@
 use Rattle.std.proofs.Common.{◌≡◌, ◌<◌, List, Result, Ok, Err, Some, ap, subst, sym, ◌∙◌, length, arith, Option}
 use Rattle.std.specs.Prelude.{slice_get}
-use Rattle.std.specs.List.{AllZip}
+use Rattle.std.specs.List.{All, AllZip}
 use Rattle.std.proofs.lemmas.Result.{err_from_is_err_and}
 use Rattle.std.proofs.lemmas.Slice.Zip.{AllZip-long}
 use Rattle.pl_base.specs.Answers.{because}
 use Rattle.pl_base.proofs.EachLaws.{front_nothing}
 use Rattle.pl_conflict.proofs.OwnLaws.{sought_at}
 use Rattle.pl_cone.specs.Links.{objects_of}
-use Rattle.pl_scope.specs.Scope.{objects}
+use Rattle.pl_scope.specs.Scope.{IsSymbol, objects}
 use Rattle.pl_value.specs.Meanings.{meaning}
 use Rattle.pl_value.specs.declared.fault.OrdinaryFault.TheVariants.{Link}
 use Rattle.pl_value.proofs.CollectingLaws.{reloc_more, reloc_stops, relocs_done}
@@ -36,7 +36,8 @@ loop-index-init c = rw (c.from_vec-all.ensures ∙ c.in_ok-with_capacity.ensures
 pub meaning_with-requires-clause-reference : goal.meaning_with-requires-clause-reference
 meaning_with-requires-clause-reference c =
     let lt : c.loop-index.index < length c.as_slice-relocs.result.now = omega arith in
-    let all = rw c.as_slice-relocs.ensures (all_symbols (objects c.args.linking.now.scope.now) 0 c.object.result.now c.object.ensures.fit c.object.ensures.object) in
+    let all : All (λ (r : Reloc). IsSymbol (objects_of c.args.linking.now) 0 r.symbol) c.as_slice-relocs.result.now =
+    rw c.as_slice-relocs.ensures (all_symbols (objects c.args.linking.now.scope.now) 0 c.object.result.now c.object.ensures.fit c.object.ensures.object) in
     all c.loop-index.index _ lt
 
 pub meaning_with-requires-clause-found : goal.meaning_with-requires-clause-found

@@ -7,11 +7,11 @@ use Rattle.pl_rewrite.proofs.RowTestLaws.{file_at}
 use Rattle.pl_rewrite.proofs.program.form_of.Goals as goal
 use Rattle.sha2.specs.Sha256.{sha256}
 
-pub bounds-numbered-row : goal.bounds-numbered-row
-bounds-numbered-row c = row_within c.args.work.now.numbered.now c.args.row c.requires.program.program.walk
+pub bounds-files-row : goal.bounds-files-row
+bounds-files-row c = row_within c.args.work.now.numbered.now c.args.row c.requires.program.program.walk
 
 pub returns-in_default : goal.returns-in_default
-returns-in_default c = absurd (no_object c.args.work.now.numbered.now c.args.row c.index-numbered-row.result c.requires.program.program.walk c.index-numbered-row.is c.in_default.ensures)
+returns-in_default c = absurd (no_object c.args.work.now.numbered.now c.args.row c.index-files-row.result c.requires.program.program.walk c.index-files-row.is c.in_default.ensures)
 
 pub list_of-requires-clause-numbered : goal.list_of-requires-clause-numbered
 list_of-requires-clause-numbered c = c.requires.program.work.numbered
@@ -28,30 +28,30 @@ digest_at-digest-requires-clause-row c = row_within c.args.work.now.numbered.now
 pub original-original-requires : goal.original-original-requires
 original-original-requires c =
     let n = c.args.work.now.numbered.now in
-    read_item n.files.now c.args.row c.index-numbered-row.result (numbered_read n c.requires.program.work.numbered) (row_within n c.args.row c.requires.program.program.walk) c.index-numbered-row.is
+    read_item n.files.now c.args.row c.index-files-row.result (numbered_read n c.requires.program.work.numbered) (row_within n c.args.row c.requires.program.program.walk) c.index-files-row.is
 
 pub form_program_with-requires-clause-firm : goal.form_program_with-requires-clause-firm
 form_program_with-requires-clause-firm c =
-    let f = program_row c.args.work.now.numbered.now c.args.row c.index-numbered-row.result c.in-Some.object.now c.requires.program.program.walk c.index-numbered-row.is c.in-Some.ensures in
-    program_firm c.args.work.now c.args.row c.index-numbered-row.result c.in-Some.object.now c.original-original.result.now c.requires.program.program f c.original-original.ensures
+    let f = program_row c.args.work.now.numbered.now c.args.row c.index-files-row.result c.in-Some.object.now c.requires.program.program.walk c.index-files-row.is c.in-Some.ensures in
+    program_firm c.args.work.now c.args.row c.index-files-row.result c.in-Some.object.now c.original-original.result.now c.requires.program.program f c.original-original.ensures
 
 pub form_program_with-requires-clause-fills : goal.form_program_with-requires-clause-fills
 form_program_with-requires-clause-fills c =
-    let f = program_row c.args.work.now.numbered.now c.args.row c.index-numbered-row.result c.in-Some.object.now c.requires.program.program.walk c.index-numbered-row.is c.in-Some.ensures in
-    fills_are c.args.work.now.numbered.now c.args.row c.index-numbered-row.result c.in-Some.object.now c.args.made.fills.items c.args.made.fills.items f c.requires.fills refl
+    let f = program_row c.args.work.now.numbered.now c.args.row c.index-files-row.result c.in-Some.object.now c.requires.program.program.walk c.index-files-row.is c.in-Some.ensures in
+    fills_are c.args.work.now.numbered.now c.args.row c.index-files-row.result c.in-Some.object.now c.args.made.fills.items c.args.made.fills.items f c.requires.fills refl
 
 pub form_program_with-requires-clause-digest : goal.form_program_with-requires-clause-digest
 form_program_with-requires-clause-digest c =
     let n = c.args.work.now.numbered.now in
-    let at = file_at n c.args.row c.index-numbered-row.result (row_within n c.args.row c.requires.program.program.walk) c.index-numbered-row.is in
-    c.digest_at-digest.ensures c.index-numbered-row.result at ∙ ap sha256 (sym c.original-original.ensures)
+    let at = file_at n c.args.row c.index-files-row.result (row_within n c.args.row c.requires.program.program.walk) c.index-files-row.is in
+    c.digest_at-digest.ensures c.index-files-row.result at ∙ ap sha256 (sym c.original-original.ensures)
 
 pub returns-in-Ok : goal.returns-in-Ok
 returns-in-Ok c =
     let n = c.args.work.now.numbered.now in
-    let t = c.index-numbered-row.result in
+    let t = c.index-files-row.result in
     let o = c.in-Some.object.now in
-    let f = program_row n c.args.row t o c.requires.program.program.walk c.index-numbered-row.is c.in-Some.ensures in (
+    let f = program_row n c.args.row t o c.requires.program.program.walk c.index-files-row.is c.in-Some.ensures in (
       ap length c.as_slice-rows.ensures.value,
       λ ss are.
           rw (← c.as_slice-rows.ensures.value)
@@ -62,9 +62,9 @@ returns-in-Ok c =
 pub returns-in-Err-TooLarge : goal.returns-in-Err-TooLarge
 returns-in-Err-TooLarge c =
     let n = c.args.work.now.numbered.now in
-    let t = c.index-numbered-row.result in
+    let t = c.index-files-row.result in
     let o = c.in-Some.object.now in
-    let f = program_row n c.args.row t o c.requires.program.program.walk c.index-numbered-row.is c.in-Some.ensures in (
+    let f = program_row n c.args.row t o c.requires.program.program.walk c.index-files-row.is c.in-Some.ensures in (
       tt,
       λ ss are.
           rw (← c.as_slice-rows.ensures.value)

@@ -27,8 +27,8 @@ meant_if_marked-requires-clause-numbered c =
       taken = c.requires;
       walks = subst (λ (rows : List (List ℕ)). AreWalks ts (record { walks = rows; causes = refusals_in ts })) (sym c.as_slice.ensures) (walks_are ts c.in_ok-walked.walked c.in_ok-walked.ensures);
       index = c.in_ok-index.ensures;
-      places = ap length (c.as_slice-2.ensures.value ∙ c.in_ok-places.ensures) ∙ length-map ts slot_borne;
-      stamps = ap length (c.as_slice-3.ensures.value ∙ c.in_ok-stamps.ensures) ∙ length-map ts old_stamp;
+      places = ap length (c.as_slice-2.ensures ∙ c.in_ok-places.ensures) ∙ length-map ts slot_borne;
+      stamps = ap length (c.as_slice-3.ensures ∙ c.in_ok-stamps.ensures) ∙ length-map ts old_stamp;
       digests = subst (AreDigests ts) (sym c.as_slice-4.ensures.value) c.in_ok-digests.ensures;
     }
 
@@ -37,8 +37,8 @@ meant_if_marked-requires-clause-stale c = rw c.as_slice-stale.ensures.value c.in
 
 pub meant_if_marked-requires-clause-borne : goal.meant_if_marked-requires-clause-borne
 meant_if_marked-requires-clause-borne c = record {
-  places = c.as_slice-2.ensures.value ∙ c.in_ok-places.ensures;
-  stamps = c.as_slice-3.ensures.value ∙ c.in_ok-stamps.ensures;
+  places = c.as_slice-2.ensures ∙ c.in_ok-places.ensures;
+  stamps = c.as_slice-3.ensures ∙ c.in_ok-stamps.ensures;
 }
 
 pub returns : goal.returns
