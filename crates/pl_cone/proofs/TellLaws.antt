@@ -1,6 +1,6 @@
 -- What does not vary in a library has a value in each program's walk.
 use Rattle.std.proofs.Common.{◌≡◌, ℕ, zero, suc, ◌<◌, true, false, List, [], ◌∷◌, length, replicate, Option, Some, None, Result, Ok, Err, refl, sym, ap, subst, ◌∙◌, arith, inl, inr}
-use Rattle.std.specs.Prelude.{◌⊎◌, slice_get, slice_index, slice_index_or, if◌then◌else◌}
+use Rattle.std.specs.Prelude.{slice_get, slice_index, slice_index_or}
 use Rattle.std.proofs.lemmas.Option.{same_Some, slice_get_cases, slice_get_within}
 use Rattle.pl_base.specs.Answers.{◌>>=◌, unless_found}
 use Rattle.pl_base.specs.Each.{run}

@@ -1,12 +1,11 @@
 -- The definers of all members in one list, and the search by it.
-use Rattle.std.proofs.Common.{◌≡◌, ℕ, ◌+◌, ◌*◌, ◌<◌, ◌≤◌, ◌^◌, Bool, true, false, List, [], ◌∷◌, ◌++◌, length, take, map, get_or, Option, Some, None, refl, sym, ap, ◌∙◌, subst, arith, inl, inr}
+use Rattle.std.proofs.Common.{◌≡◌, ℕ, ◌+◌, ◌<◌, ◌≤◌, ◌^◌, Bool, true, false, List, [], ◌∷◌, ◌++◌, length, take, map, get_or, Option, Some, None, refl, sym, ap, ◌∙◌, subst, arith, inl, inr}
 use Rattle.std.specs.Prelude.{slice_get, nat_lt, ◌==◌, vec_len, if◌then◌else◌}
 use Rattle.std.specs.List.{list_any}
 use Rattle.std.specs.List.Sorted.{IsNonDecreasingBy, IsPermutation}
 use Rattle.std.specs.Option.{option_and_then, option_map}
 use Rattle.std.proofs.lemmas.Bool.{cases_Bool, and_parts, or_right, eqb-true, eq-eqb, le-ltb, lt-ltb, ltb-true, ltb-false}
 use Rattle.std.proofs.lemmas.List.{take_more, take_all, map-append, length-append}
-use Rattle.std.proofs.lemmas.List.Folds.{Any-from_list_any, list_any_at}
 use Rattle.std.proofs.lemmas.List.Sorted.{list_any-IsPermutation}
 use Rattle.std.proofs.lemmas.Nat.{mod-mul-add}
 use Rattle.std.proofs.lemmas.Option.{slice_get_within, slice_get_past, get_or_from_slice_get}
@@ -187,7 +186,7 @@ module _ (os : List Object) (w : Wanted) (start : ℕ) where
   pub short_done : (items : List Entry) (i count : ℕ) (best : Option Found) → length items ≤ i → count ≡ length os → IsBestOf (map placed (take i items)) best
       → ((m : ℕ) (f : Found) → in_member os w.name.now w.class Version m ≡ Some f → list_any (has_value m) (map placed items) ≡ true) → best ≡ first_in os w.name.now w.class Version (from_member start count)
   short_done items i count best le all is whole =
-      rw all (best_is os w.name.now w.class Version start (map placed items) best (subst (λ (xs : List Entry). IsBestOf (map placed xs) best) (take_all items i le) is) whole)
+      rw all (best_is os w.name.now w.class Version start (map placed items) best (subst (λ (xs : List Entry). IsBestOf (map placed xs) best) (take_all i items le) is) whole)
 
 member_is : (hash member : ℕ) → member < 2 ^ 32 → member_of (entry (pair hash member) 0) ≡ member
 member_is hash member lt = mod-mul-add hash (2 ^ 32) member lt

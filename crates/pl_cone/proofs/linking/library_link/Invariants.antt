@@ -1,4 +1,4 @@
-use Rattle.std.proofs.Common.{◌≡◌, take}
+use Rattle.std.proofs.Common.{take}
 use Rattle.std.specs.List.{AllZip}
 use Rattle.pl_conflict.specs.Between.{HoldsBetween}
 use Rattle.pl_scope.specs.Scope.{objects}

@@ -1,4 +1,4 @@
-use Rattle.std.proofs.Common.{◌≡◌, Bool, List, ap, ◌∙◌}
+use Rattle.std.proofs.Common.{Bool, List, ap, ◌∙◌}
 use Rattle.std.proofs.lemmas.Result.{err_from_is_err_and}
 use Rattle.pl_cone.specs.Currency.{stale_rows, stamps_of}
 use Rattle.pl_cone.proofs.PlanLaws.{all_planned, places_long, rows_planned, slots_stop, stale_long, stamp_stop}

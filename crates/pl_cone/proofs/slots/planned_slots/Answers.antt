@@ -2,7 +2,7 @@ use Rattle.std.proofs.Common.{◌≡◌, ◌<◌, ℕ, Bool, true, false, List, 
 use Rattle.std.specs.Prelude.{MatchBool, ⊤, if◌then◌else◌}
 use Rattle.std.specs.List.{All}
 use Rattle.std.proofs.lemmas.Result.{err_from_is_err_and}
-use Rattle.pl_base.specs.Answers.{Answers, because}
+use Rattle.pl_base.specs.Answers.{because}
 use Rattle.pl_share.specs.Disjoint.{disjoint}
 use Rattle.pl_share.specs.Shared.{plan_shared}
 use Rattle.pl_slots.specs.Plan.{plan}

@@ -1,11 +1,9 @@
-use Rattle.std.proofs.Common.{◌≡◌, List, Option, map, ap, ◌∙◌}
+use Rattle.std.proofs.Common.{◌≡◌, List, map, ap, ◌∙◌}
 use Rattle.std.proofs.lemmas.List.{take_all}
-use Rattle.pl_base.specs.Answers.{Answers}
 use Rattle.pl_cone.specs.Candidates.{blocks}
 use Rattle.pl_cone.proofs.MemberLaws.{blocks_are, few_blocks}
 use Rattle.pl_scope.specs.declared.member.Member.{Member}
-use Rattle.pl_tls.specs.Layout.{is_memory, offsets}
-use Rattle.pl_tls.specs.declared.block.Block.{Block}
+use Rattle.pl_tls.specs.Layout.{offsets}
 use Rattle.pl_cone.proofs.values.modules_of.Goals as goal
 
 pub offsets-requires : goal.offsets-requires

@@ -1,4 +1,4 @@
-use Rattle.std.proofs.Common.{◌≡◌, ◌<◌, ◌≤◌, List, get_or, length, ap, sym, refl, subst, arith, ◌∙◌}
+use Rattle.std.proofs.Common.{◌≤◌, List, get_or, length, ap, sym, refl, subst, arith, ◌∙◌}
 use Rattle.std.specs.Prelude.{filter}
 use Rattle.std.proofs.lemmas.Result.{err_from_is_err_and}
 use Rattle.pl_base.specs.Answers.{because}

@@ -1,4 +1,4 @@
-use Rattle.std.proofs.Common.{sym, subst}
+use Rattle.std.proofs.Common.{subst}
 use Rattle.pl_scope.specs.Block.{HaveName, IsPlace}
 use Rattle.pl_scope.specs.declared.block.Place.{Place}
 use Rattle.pl_scope.proofs.BlockLaws.{named_here}

@@ -1,4 +1,4 @@
-use Rattle.std.proofs.Common.{◌≡◌, ◌≤◌, ℕ, subst, arith}
+use Rattle.std.proofs.Common.{◌≡◌, ℕ, subst, arith}
 use Rattle.pl_scope.specs.Definers.{pair}
 use Rattle.pl_scope.specs.Entries.{AreUnder}
 use Rattle.pl_scope.proofs.short_index.of_member.Goals as goal

@@ -1,4 +1,4 @@
-use Rattle.std.proofs.Common.{◌≡◌, ◌+◌, ◌≤◌, ℕ, subst, arith}
+use Rattle.std.proofs.Common.{◌≡◌, ◌+◌, ℕ, subst, arith}
 use Rattle.pl_scope.specs.Definers.{pair}
 use Rattle.pl_scope.specs.Entries.{AreBetween}
 use Rattle.pl_scope.specs.ShortIndex.{end_of_hash}

@@ -1,4 +1,4 @@
-use Rattle.std.proofs.Common.{ℕ, List, subst, sym}
+use Rattle.std.proofs.Common.{List, subst, sym}
 use Rattle.std.specs.List.Sorted.{IsNonDecreasingBy}
 use Rattle.pl_scope.specs.Sorted.{IsFirst}
 use Rattle.pl_scope.specs.declared.entries.Entry.{Entry}

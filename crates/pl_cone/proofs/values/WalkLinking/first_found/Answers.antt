@@ -1,4 +1,4 @@
-use Rattle.std.proofs.Common.{◌≡◌, ◌<◌, ◌≤◌, List, Option, map, sym, ap, subst, ◌∙◌}
+use Rattle.std.proofs.Common.{List, Option, map, sym, ap, subst, ◌∙◌}
 use Rattle.std.specs.List.{All, AllZip}
 use Rattle.std.proofs.lemmas.List.{take_all}
 use Rattle.pl_object.specs.declared.reloc.Reloc.{Reloc}

@@ -1,4 +1,4 @@
-use Rattle.std.proofs.Common.{◌≡◌, ◌<◌, ◌≤◌, ℕ, length, get_or, refl, sym, subst, arith, ◌∙◌}
+use Rattle.std.proofs.Common.{◌<◌, ◌≤◌, ℕ, length, get_or, refl, sym, subst, arith}
 use Rattle.std.proofs.lemmas.Option.{slice_get_read, slice_get-get_or}
 use Rattle.std.proofs.lemmas.Result.{err_from_is_err_and}
 use Rattle.pl_scope.proofs.MemberLaws.{length_objects}

@@ -1,1 +1,0 @@
-use Rattle.pl_scope.proofs.kept.way_by.Goals as goal
