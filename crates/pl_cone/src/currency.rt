@@ -1,5 +1,6 @@
 // The names whose files may stay as they are, and the stamps of a run.
 ghost use Rattle.std.specs.Prelude.{◌≡◌, IfOk, length};
+ghost use Rattle.std.specs.List.{list_any};
 ghost use Rattle.pl_cone.specs.Currency as spec;
 ghost use Rattle.pl_cone.specs.Table as columns;
 ghost use Rattle.pl_base.specs.Answers.{Answers};
@@ -127,12 +128,18 @@ fn greatest_of_files(last: u32, files: &[Taken]) -> u32
     most
 }
 
+fn any_stale(stale: &[bool]) -> bool
+    ensures { result ≡ list_any (λ b. b) stale.now }
+{
+    stale.iter().any(|flag| *flag)
+}
+
 /// The stamp that the stale names of a run at a moment get: the greater of the moment and one more than the greatest of `last`, the stamps of all marks and those in their lists. It is `last` where no name is stale. `StampsSpent` comes exactly where one is and that greatest stamp is the last that there is.
 #[tactic(auto, unfolding(crate::specs::Plans::stamp_after))]
 pub fn run_stamp(files: &[Taken], stale: &[bool], last: u32, now: u32) -> Result<u32, ConeFault>
     ensures { Answers stops_memory result (spec.run_stamp files.now stale.now last now) }
 {
-    if !stale.iter().any(|flag| *flag) {
+    if !any_stale(stale) {
         return Ok(last);
     }
     let greatest = greatest_of_files(last, files);

@@ -38,4 +38,4 @@ returns c = λ region taken.
     let file = c.in-Some.ensures in
     let number = row_number c.requires.0 c.in_ok-table.table c.args.files.now c.in-Some.row file.0 c.requires.1 c.in_ok-table.ensures.files c.in_ok-table.ensures.table file.1 in
     let meant = named_skip region c.in_ok-table.table c.args.files.now c.in-Some.row file.0 c.args.name.now taken c.in_ok-table.ensures.files c.in_ok-table.ensures.table file.1 file.2 in
-    answers_meant skip_is_memory (Err c.in-Some-2.skip) (skip_of (files_in c.args.files.now) region c.args.name.now) (meant ∙ sym (taken_out c.into_vec-causes.result.items c.in_ok-table.table.causes c.in-Some.row (Some c.in-Some-2.skip) c.into_vec-causes.ensures number c.in-Some-2.ensures.value))
+    answers_meant skip_is_memory (Err c.in-Some-remove.skip) (skip_of (files_in c.args.files.now) region c.args.name.now) (meant ∙ sym (taken_out c.into_vec-causes.result.items c.in_ok-table.table.causes c.in-Some.row (Some c.in-Some-remove.skip) c.into_vec-causes.ensures number c.in-Some-remove.ensures.value))

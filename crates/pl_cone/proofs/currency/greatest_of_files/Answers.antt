@@ -25,7 +25,7 @@ loop-taken-preserved c =
     let next : fold by_file c.args.last (take (i + 1) ts) ≡ max so_far (greatest_of_file t) = step ts i t c.args.last c.loop-taken-test.true c.taken-item.is in
     elim c.match-marked.branch [
       | in-Some w ↦
-          rw w.most-is (w.max.ensures ∙ (ap (λ (k : ℕ). max c.loop-taken.most k) (w.greatest_in.ensures ∙ ap greatest_by w.in-Some.ensures.value) ∙ (ap (λ (m : ℕ). max m (greatest_of_file t)) c.loop-taken.invariant ∙ sym next)))
+          rw w.most-is (w.max-most.ensures ∙ (ap (λ (k : ℕ). max c.loop-taken.most k) (w.greatest_in.ensures ∙ ap greatest_by w.in-Some.ensures.value) ∙ (ap (λ (m : ℕ). max m (greatest_of_file t)) c.loop-taken.invariant ∙ sym next)))
       | in_default w ↦
           rw w.most-is (c.loop-taken.invariant ∙ (sym (top so_far) ∙ (ap (λ (k : ℕ). max so_far k) (ap greatest_by w.in_default.ensures.value) ∙ sym next)))
     ]

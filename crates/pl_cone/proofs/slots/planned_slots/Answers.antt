@@ -49,13 +49,13 @@ returns-in_err-plan_shared-clause-value c =
     let p = err_from_is_err_and c.from_residual-in_err-plan_shared.result c.from_residual-in_err-plan_shared.ensures.1 in
     rw (p.1, p.2, ← shared_is c.args.table.now c.args.asked.now c.as_slice-wants.result.now c.in_ok-walks.walks.rows c.if-asked.true told c.in_ok-walks.ensures) (stops _ _ c.in_err-plan_shared.ensures.exact)
 
-pub returns-then-asked-clause-value : goal.returns-then-asked-clause-value
-returns-then-asked-clause-value c =
+pub returns-in_ok-plan_shared-clause-value : goal.returns-in_ok-plan_shared-clause-value
+returns-in_ok-plan_shared-clause-value c =
     let told : c.as_slice-wants.result.now ≡ table_wants c.args.table.now = c.as_slice-wants.ensures ∙ c.requires.wanting.wants in
     sym (shared_is c.args.table.now c.args.asked.now c.as_slice-wants.result.now c.in_ok-walks.walks.rows c.if-asked.true told c.in_ok-walks.ensures) ∙ ap (because of_plan) c.in_ok-plan_shared.ensures.exact
 
-pub returns-then-asked-clause-names : goal.returns-then-asked-clause-names
-returns-then-asked-clause-names c =
+pub returns-in_ok-plan_shared-clause-names : goal.returns-in_ok-plan_shared-clause-names
+returns-in_ok-plan_shared-clause-names c =
     let told : c.as_slice-wants.result.now ≡ table_wants c.args.table.now = c.as_slice-wants.ensures ∙ c.requires.wanting.wants in
     let spans : All (λ w. 0 < w.span) c.as_slice-wants.result.now = subst (λ (ws : List Want). All (λ w. 0 < w.span) ws) (sym told) (wants_spanned c.requires.table.0 c.args.table.now c.requires.table.1) in
     subst (λ (ws : List Want). HaveWantedNames ws c.in_ok-plan_shared.field-0) told (shared_names c.args.asked.now.region c.as_slice-wants.result.now _ (c.in_ok-plan_shared.ensures.serve spans))
@@ -66,13 +66,13 @@ returns-in_err-plan-clause-value c =
     let p = err_from_is_err_and c.from_residual-in_err-plan.result c.from_residual-in_err-plan.ensures.1 in
     rw (p.1, p.2, ← apart_is c.args.table.now c.args.asked.now c.as_slice-wants.result.now c.as_slice.result.now c.if-asked.false told (c.as_slice.ensures ∙ c.in_ok-kept.ensures.exact)) (stops _ _ c.in_err-plan.ensures.exact)
 
-pub returns-else-asked-clause-value : goal.returns-else-asked-clause-value
-returns-else-asked-clause-value c =
+pub returns-in_ok-plan-clause-value : goal.returns-in_ok-plan-clause-value
+returns-in_ok-plan-clause-value c =
     let told : c.as_slice-wants.result.now ≡ table_wants c.args.table.now = c.as_slice-wants.ensures ∙ c.requires.wanting.wants in
     sym (apart_is c.args.table.now c.args.asked.now c.as_slice-wants.result.now c.as_slice.result.now c.if-asked.false told (c.as_slice.ensures ∙ c.in_ok-kept.ensures.exact)) ∙ ap (because of_plan) c.in_ok-plan.ensures.exact
 
-pub returns-else-asked-clause-names : goal.returns-else-asked-clause-names
-returns-else-asked-clause-names c =
+pub returns-in_ok-plan-clause-names : goal.returns-in_ok-plan-clause-names
+returns-in_ok-plan-clause-names c =
     let told : c.as_slice-wants.result.now ≡ table_wants c.args.table.now = c.as_slice-wants.ensures ∙ c.requires.wanting.wants in
     let spans : All (λ w. 0 < w.span) c.as_slice-wants.result.now = subst (λ (ws : List Want). All (λ w. 0 < w.span) ws) (sym told) (wants_spanned c.requires.table.0 c.args.table.now c.requires.table.1) in
     subst (λ (ws : List Want). HaveWantedNames ws c.in_ok-plan.field-0) told (apart_names _ c.args.asked.now.region c.as_slice-wants.result.now _ (c.in_ok-plan.ensures.serve spans))

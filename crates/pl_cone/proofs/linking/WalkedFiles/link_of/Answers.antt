@@ -75,8 +75,8 @@ program_link-requires-clause-links c =
       tell = program_tells c.requires.walked.taken.0 c.args.self.now c.requires.walked c.requires.walked.taken.1 c.args.row h (program_first c.args.self.now c.args.row c.requires.walked h out also) (rw same at c.in_ok-all_formed.ensures) c.args.links.now (c.requires.libraries out);
     })
 
-pub returns-else-is_library : goal.returns-else-is_library
-returns-else-is_library c = λ h.
+pub returns : goal.returns
+returns c = λ h.
     let same = c.as_slice-walk.ensures ∙ (sym c.index-self-row-2.is ∙ walk_is c.args.self.now c.args.row h c.index-self-row-2.result c.index-self-row-2.is) in
     let one = sym c.index-self-row.is ∙ taken_is c.args.self.now c.args.row h c.index-self-row.result c.index-self-row.is in
     let out : is_library_row c.args.self.now c.args.row ≡ false = ap is_library_in h.file ∙ (ap (λ (t : Taken). is_library_entry t.entry) (sym one) ∙ (sym c.is_library.ensures ∙ c.if-is_library.false)) in

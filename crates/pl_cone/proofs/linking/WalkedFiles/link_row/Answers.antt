@@ -1,7 +1,6 @@
 use Rattle.std.proofs.Common.{◌<◌, length, refl, sym, ◌∙◌, arith, rules}
 use Rattle.pl_cone.proofs.LinkedLaws.{cause_read, none_read}
 use Rattle.pl_cone.proofs.LinkingLaws.{cause_put, link_put, row_walk, skip_put}
-use Rattle.pl_cone.proofs.linking.WalkedFiles.link_row.Goals.{in-Ok, in-Err}
 use Rattle.pl_cone.proofs.linking.WalkedFiles.link_row.Goals as goal
 
 pub returns-then-is_some : goal.returns-then-is_some
@@ -21,13 +20,18 @@ link_of-requires c =
       libraries = rw c.deref.ensures.value c.requires.libraries;
     }
 
-pub returns : goal.returns
-returns c =
+pub returns-in-Ok : goal.returns-in-Ok
+returns-in-Ok c =
     let w = c.args.self.now in
     let lt : c.args.row < length c.args.linked.now.causes.items = omega (arith, c.requires.within, c.requires.sized.causes) in
     let none = none_read c.args.linked.now c.args.row c.index.result.now lt c.index.ensures (sym c.is_some.ensures ∙ c.if-is_some.false) in
     let h = row_walk w c.args.linked.now c.args.row c.requires.walked c.requires.unlinked c.requires.within none in
-    elim c.match-link_of.branch [
-      | in-Ok v ↦ rw v.linked-is (link_put w c.args.linked.now _ c.args.row v.in-Ok.link c.requires none h v.in-Ok.ensures refl refl)
-      | in-Err v ↦ rw v.linked-is (skip_put w c.args.linked.now _ c.args.row v.in-Err.skip c.requires h v.in-Err.ensures (search rules) refl refl)
-    ]
+    link_put w c.args.linked.now _ c.args.row c.in-Ok.link c.requires none h c.in-Ok.ensures refl refl
+
+pub returns-in-Err : goal.returns-in-Err
+returns-in-Err c =
+    let w = c.args.self.now in
+    let lt : c.args.row < length c.args.linked.now.causes.items = omega (arith, c.requires.within, c.requires.sized.causes) in
+    let none = none_read c.args.linked.now c.args.row c.index.result.now lt c.index.ensures (sym c.is_some.ensures ∙ c.if-is_some.false) in
+    let h = row_walk w c.args.linked.now c.args.row c.requires.walked c.requires.unlinked c.requires.within none in
+    skip_put w c.args.linked.now _ c.args.row c.in-Err.skip c.requires h c.in-Err.ensures (search rules) refl refl

@@ -17,8 +17,8 @@ link_rows-requires-clause-linked c =
     })
     (λ row lt. ap (λ (cs : List (Option Skip)). slice_get cs row) told)
 
-pub link_rows-2-requires-clause-linked : goal.link_rows-2-requires-clause-linked
-link_rows-2-requires-clause-linked c = libraries_first c.args.self.now _ c.in_ok-link_rows.ensures
+pub link_rows-requires-2-clause-linked : goal.link_rows-requires-2-clause-linked
+link_rows-requires-2-clause-linked c = libraries_first c.args.self.now _ c.in_ok-link_rows.ensures
 
 pub returns : goal.returns
 returns c = others_end c.args.self.now _ c.in_ok-link_rows-2.ensures

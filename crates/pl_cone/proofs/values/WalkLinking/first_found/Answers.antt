@@ -25,11 +25,11 @@ returns-in-Err c =
     own_stops c.args.self.now c.in-Err.fault _
     (ap (λ (rs : List Reloc). rows_have_in c.args.self.now (map (row 0) rs)) same
     ∙ row_stops (meaning_in c.args.self.now) 0 c.as_slice-relocs.result.now c.loop-reloc.reloc-index _ _ _ c.loop-reloc-test.true (sym c.in-Err.ensures.value) c.loop-reloc.invariant.values)
-    c.in_ok-refused.ensures
+    c.in_ok-refused-in-Err.ensures
 
 pub loop-reloc-preserved : goal.loop-reloc-preserved
 loop-reloc-preserved c = record {
-  found = zip_more (λ r f. IsSought (objects_of c.args.self.now) (reference 0 r) f) c.as_slice-relocs.result.now c.loop-reloc.reloc-index _ c.loop-reloc.all _ _ c.loop-reloc-test.true c.loop-reloc.invariant.found c.in-Ok.ensures.found c.in_ok-push.ensures.ok;
+  found = zip_more (λ r f. IsSought (objects_of c.args.self.now) (reference 0 r) f) c.as_slice-relocs.result.now c.loop-reloc.reloc-index _ c.loop-reloc.all _ _ c.loop-reloc-test.true c.loop-reloc.invariant.found c.in-Ok.ensures.found c.in_ok-push-in-Ok.ensures.ok;
   values = row_linked (meaning_in c.args.self.now) 0 c.as_slice-relocs.result.now c.loop-reloc.reloc-index _ _ c.loop-reloc-test.true (sym c.in-Ok.ensures.value) c.loop-reloc.invariant.values;
 }
 

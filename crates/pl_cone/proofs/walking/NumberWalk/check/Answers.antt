@@ -22,11 +22,11 @@ pub returns-then-contains : goal.returns-then-contains
 returns-then-contains c =
     let w = c.args.self.now in
     let number = c.index-number.result.now in
-    let first = c.index-first.result.now in
+    let first = c.index.result.now in
     let at : slice_get w.numbers.items c.args.index ≡ Some number = slice_get_read w.numbers.items (length w.numbers.items) c.args.index number refl c.requires.index c.index-number.ensures in
     let some : 0 < length w.numbers.items = omega (arith, c.requires.index) in
-    let first_at : slice_get w.numbers.items 0 ≡ Some first = slice_get_read w.numbers.items (length w.numbers.items) 0 first refl some c.index-first.ensures in
-    let named : first < length (all_names c.args.needs.now) = subst (λ (k : ℕ). k < length (all_names c.args.needs.now)) (sym c.index-first.ensures) (c.requires.walking.walking.named 0 first some) in
+    let first_at : slice_get w.numbers.items 0 ≡ Some first = slice_get_read w.numbers.items (length w.numbers.items) 0 first refl some c.index.ensures in
+    let named : first < length (all_names c.args.needs.now) = subst (λ (k : ℕ). k < length (all_names c.args.needs.now)) (sym c.index.ensures) (c.requires.walking.walking.named 0 first some) in
     let later : 0 < c.args.index = omega (arith, c.if-index-eq0.false) in
     check_has c.args.needs.now c.requires.walking.needs c.args.index w number c.args.object.now later at (c.requires.object number at) (sym c.if-not-is_library.ensures) first first_at named (sym c.if-is_program_row.ensures) c.of_row.result.now c.of_row.ensures true (sym c.if-contains.ensures.value)
     ∙ ap (λ (m : List ℕ). Err (NeededIsProgram m)) (sym c.in_ok-name-2.ensures)
@@ -35,11 +35,11 @@ pub returns : goal.returns
 returns c =
     let w = c.args.self.now in
     let number = c.index-number.result.now in
-    let first = c.index-first.result.now in
+    let first = c.index.result.now in
     let at : slice_get w.numbers.items c.args.index ≡ Some number = slice_get_read w.numbers.items (length w.numbers.items) c.args.index number refl c.requires.index c.index-number.ensures in
     let some : 0 < length w.numbers.items = omega (arith, c.requires.index) in
-    let first_at : slice_get w.numbers.items 0 ≡ Some first = slice_get_read w.numbers.items (length w.numbers.items) 0 first refl some c.index-first.ensures in
-    let named : first < length (all_names c.args.needs.now) = subst (λ (k : ℕ). k < length (all_names c.args.needs.now)) (sym c.index-first.ensures) (c.requires.walking.walking.named 0 first some) in
+    let first_at : slice_get w.numbers.items 0 ≡ Some first = slice_get_read w.numbers.items (length w.numbers.items) 0 first refl some c.index.ensures in
+    let named : first < length (all_names c.args.needs.now) = subst (λ (k : ℕ). k < length (all_names c.args.needs.now)) (sym c.index.ensures) (c.requires.walking.walking.named 0 first some) in
     let later : 0 < c.args.index = omega (arith, c.if-index-eq0.false) in
     elim c.else-is_program_row.branch [
       | else-is_program_row-via-then-is_program_row+else-contains w' ↦
