@@ -139,19 +139,28 @@ fn add_row(rows: &mut Rows<Change>, row: Option<Change>) -> Result<(), AllocErro
 fn name_of(taken: Taken) -> Text
     ensures { result ≡ taken.name }
 {
-    taken.name
+    let Taken { name, .. } = taken;
+    name
 }
 
-fn add_made(all: &mut MadeFiles, name: Text, made: Made) -> Result<(), AllocError>
-    ensures { OnOk result (all.new ≡ told.with_made all.old name made) }
+fn add_made(all: MadeFiles, name: Text, made: Made) -> Result<MadeFiles, AllocError>
+    ensures { IfOk result (λ more. more ≡ told.with_made all name made) }
 {
-    add_row(&mut all.rows, made.change)?;
-    all.states.push(ReportRow {
+    let MadeFiles {
+        mut rows,
+        mut states,
+        given,
+    } = all;
+    add_row(&mut rows, made.change)?;
+    states.push(ReportRow {
         name,
         state: made.state,
     })?;
-    all.given = all.given || made.given;
-    Ok(())
+    Ok(MadeFiles {
+        rows,
+        states,
+        given: given || made.given,
+    })
 }
 
 fn all_made(
@@ -169,10 +178,12 @@ fn all_made(
         states: Rows::new(alloc),
         given: false,
     };
-    for taken in files.into_vec() {
+    let items = files.into_vec();
+    for taken in items {
         if let Some(outcome) = outcomes.next() {
             let made = made_last(alloc, &taken, outcome)?;
-            add_made(&mut all, name_of(taken), made)?;
+            let name = name_of(taken);
+            all = add_made(all, name, made)?;
         }
     }
     Ok(all)
