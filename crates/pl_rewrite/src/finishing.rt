@@ -1,5 +1,5 @@
 // What is made of files by their outcomes; each file is let go in its turn.
-ghost use Rattle.std.specs.Prelude.{◌≡◌, IfOk, OnOk, Some, if◌then◌else◌};
+ghost use Rattle.std.specs.Prelude.{◌≡◌, IfOk, Some, if◌then◌else◌};
 ghost use Rattle.std.specs.List.{All};
 ghost use Rattle.pl_cone.specs.Taken.{HasItsEntry, files_in, names_of};
 ghost use Rattle.pl_rewrite.specs.Changes as changes;
@@ -130,19 +130,28 @@ fn made_last(alloc: Global, taken: &Taken, outcome: RowOutcome) -> Result<Made, 
 fn name_of(taken: Taken) -> Text
     ensures { result ≡ taken.name }
 {
-    taken.name
+    let Taken { name, .. } = taken;
+    name
 }
 
-fn add_made(all: &mut MadeFiles, name: Text, made: Made) -> Result<(), AllocError>
-    ensures { OnOk result (all.new ≡ told.with_made all.old name made) }
+fn add_made(all: MadeFiles, name: Text, made: Made) -> Result<MadeFiles, AllocError>
+    ensures { IfOk result (λ more. more ≡ told.with_made all name made) }
 {
-    all.rows.push_some(made.change)?;
-    all.states.push(ReportRow {
+    let MadeFiles {
+        mut rows,
+        mut states,
+        given,
+    } = all;
+    rows.push_some(made.change)?;
+    states.push(ReportRow {
         name,
         state: made.state,
     })?;
-    all.given = all.given || made.given;
-    Ok(())
+    Ok(MadeFiles {
+        rows,
+        states,
+        given: given || made.given,
+    })
 }
 
 fn all_made(
@@ -160,10 +169,12 @@ fn all_made(
         states: Rows::new(alloc),
         given: false,
     };
-    for taken in files.into_vec() {
+    let items = files.into_vec();
+    for taken in items {
         if let Some(outcome) = outcomes.next() {
             let made = made_last(alloc, &taken, outcome)?;
-            add_made(&mut all, name_of(taken), made)?;
+            let name = name_of(taken);
+            all = add_made(all, name, made)?;
         }
     }
     Ok(all)

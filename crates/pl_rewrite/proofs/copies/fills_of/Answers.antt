@@ -20,8 +20,8 @@ loop-index-preserved c = elim c.if-has_place.branch [
   | then-has_place+in_ok-bytes+in_ok-push w ↦
       let more = ap (λ (v : Vec Fill Global). v.items) w.fills-is ∙ w.in_ok-push.ensures.items in
       fills_more c.args.filling.now c.args.relocs.now c.args.meanings.now c.loop-index.index _ (record { member = 0; start = 0; size = 0; word = _ }) _ _ (omega arith) c.requires.one_each
-      (fill_pushed c.args.filling.now _ _ _ c.loop-index.fills.items c.if-has_place.fills.items (sym c.has_place.ensures ∙ w.if-has_place.true)
-      (fill_is c.args.filling.now _ _ w.in_ok-bytes.bytes.items w.from_vec.result w.in_ok-bytes.ensures w.from_vec.ensures) more) c.loop-index.invariant
+      (fill_pushed c.args.filling.now _ (get_or c.args.meanings.now c.loop-index.index (record { member = 0; start = 0; size = 0; word = _ })) _ c.loop-index.fills.items c.if-has_place.fills.items (sym c.has_place.ensures ∙ w.if-has_place.true)
+      (fill_is c.args.filling.now _ (get_or c.args.meanings.now c.loop-index.index (record { member = 0; start = 0; size = 0; word = _ })) w.in_ok-bytes.bytes.items w.from_vec.result w.in_ok-bytes.ensures w.from_vec.ensures) more) c.loop-index.invariant
   | else-has_place w ↦
       rw w.fills-is
       (fills_more c.args.filling.now c.args.relocs.now c.args.meanings.now c.loop-index.index _ nothing c.loop-index.fills.items c.loop-index.fills.items (omega arith) c.requires.one_each

@@ -1,4 +1,4 @@
-use Rattle.std.proofs.Common.{ap, arith, subst, sym, ◌∙◌}
+use Rattle.std.proofs.Common.{ap, arith, get_or, subst, sym, ◌∙◌}
 use Rattle.pl_cone.specs.Taken.{HasItsEntry}
 use Rattle.pl_cone.specs.declared.taken.Taken.{Taken}
 use Rattle.pl_form.specs.Files.{original_in}
@@ -17,5 +17,5 @@ returns-then-is_library c =
     let ts = c.args.numbered.now.files.now in
     let there = c.index-numbered-row.is in
     let read = subst HasItsEntry there (read_item ts c.args.row c.index-numbered-row.result (numbered_read c.args.numbered.now c.requires.numbered) c.requires.row there) in
-    let sum = borne_is _ c.in-Some.marked.now (c.in-Some.ensures.read read) (sym c.is_library.ensures ∙ c.if-is_library.true) in
+    let sum = borne_is (get_or ts c.args.row c.index-numbered-row.result) c.in-Some.marked.now (c.in-Some.ensures.read read) (sym c.is_library.ensures ∙ c.if-is_library.true) in
     checksum_told ts c.args.row c.index-numbered-row.result c.in-Some.marked.now.checksum c.requires.row there (sum ∙ ap (λ (t : Taken). checksum_of (original_in t.bytes)) (sym there))

@@ -18,18 +18,18 @@ loop-cause-init c =
 pub bounds-files-row : goal.bounds-files-row
 bounds-files-row c =
     let given = c.into_iter-cause-iterator.ensures.into_iter_gives in
-    let items = c.into_vec.ensures in
-    let turn = YieldsList-turn (YieldsList-from_vec {s = c.into_iter-cause-iterator.result} c.args.causes (given.0 ∙ items) (given.1 ∙ (c.into_vec.result.ok.0 ∙ ap length items))) c.loop-cause.yielded c.loop-cause.cause-iterator c.loop-cause.yielded_by c.next.result c.next.new.self c.in-Some.cause c.in-Some.is c.next.ensures.steps in
+    let items = c.into_vec-cause-items.ensures in
+    let turn = YieldsList-turn (YieldsList-from_vec {s = c.into_iter-cause-iterator.result} c.args.causes (given.0 ∙ items) (given.1 ∙ (c.into_vec-cause-items.result.ok.0 ∙ ap length items))) c.loop-cause.yielded c.loop-cause.cause-iterator c.loop-cause.yielded_by c.next.result c.next.new.self c.in-Some.cause c.in-Some.is c.next.ensures.steps in
     let row : c.len-row.result ≡ length c.loop-cause.all.items = omega (arith, c.len-row.ensures, c.loop-cause.all.ok.0) in
     omega (arith, row, turn.0, c.loop-cause.invariant.0, c.requires.causes)
 
 pub loop-cause-preserved : goal.loop-cause-preserved
 loop-cause-preserved c =
     let given = c.into_iter-cause-iterator.ensures.into_iter_gives in
-    let items = c.into_vec.ensures in
+    let items = c.into_vec-cause-items.ensures in
     let ts = c.args.files.now in
     let ms = c.args.made.items in
-    let turn = YieldsList-turn (YieldsList-from_vec {s = c.into_iter-cause-iterator.result} c.args.causes (given.0 ∙ items) (given.1 ∙ (c.into_vec.result.ok.0 ∙ ap length items))) c.loop-cause.yielded c.loop-cause.cause-iterator c.loop-cause.yielded_by c.next.result c.next.new.self c.in-Some.cause c.in-Some.is c.next.ensures.steps in
+    let turn = YieldsList-turn (YieldsList-from_vec {s = c.into_iter-cause-iterator.result} c.args.causes (given.0 ∙ items) (given.1 ∙ (c.into_vec-cause-items.result.ok.0 ∙ ap length items))) c.loop-cause.yielded c.loop-cause.cause-iterator c.loop-cause.yielded_by c.next.result c.next.new.self c.in-Some.cause c.in-Some.is c.next.ensures.steps in
     let i = length c.loop-cause.yielded in
     let counted : c.len-row.result ≡ length c.loop-cause.all.items = omega (arith, c.len-row.ensures, c.loop-cause.all.ok.0) in
     let row : i ≡ c.len-row.result = omega (arith, counted, c.loop-cause.invariant.0) in
@@ -51,6 +51,6 @@ loop-cause-preserved c =
 pub returns : goal.returns
 returns c =
     let given = c.into_iter-cause-iterator.ensures.into_iter_gives in
-    let items = c.into_vec.ensures in
-    let end = YieldsList-end (YieldsList-from_vec {s = c.into_iter-cause-iterator.result} c.args.causes (given.0 ∙ items) (given.1 ∙ (c.into_vec.result.ok.0 ∙ ap length items))) c.loop-cause.yielded c.loop-cause.cause-iterator c.loop-cause.yielded_by c.next.result c.next.new.self c.in-None.is c.next.ensures.steps in
+    let items = c.into_vec-cause-items.ensures in
+    let end = YieldsList-end (YieldsList-from_vec {s = c.into_iter-cause-iterator.result} c.args.causes (given.0 ∙ items) (given.1 ∙ (c.into_vec-cause-items.result.ok.0 ∙ ap length items))) c.loop-cause.yielded c.loop-cause.cause-iterator c.loop-cause.yielded_by c.next.result c.next.new.self c.in-None.is c.next.ensures.steps in
     all_are c.args.files.now c.args.causes c.args.made.items c.loop-cause.all.items (omega (arith, c.loop-cause.invariant.0, end.1, c.requires.causes)) c.loop-cause.invariant.1

@@ -13,16 +13,16 @@ loop-link-init c = (ap length c.new-all.ensures.items, row_words_none c.args.num
 pub row_words_of-requires-clause-row : goal.row_words_of-requires-clause-row
 row_words_of-requires-clause-row c =
     let given = c.into_iter-link-iterator.ensures.into_iter_gives in
-    let items = c.into_vec.ensures in
-    let turn = YieldsList-turn (YieldsList-from_vec {s = c.into_iter-link-iterator.result} c.args.links (given.0 ∙ items) (given.1 ∙ (c.into_vec.result.ok.0 ∙ ap length items))) c.loop-link.yielded c.loop-link.link-iterator c.loop-link.yielded_by c.next.result c.next.new.self c.in-Some.link c.in-Some.is c.next.ensures.steps in
+    let items = c.into_vec-link-items.ensures in
+    let turn = YieldsList-turn (YieldsList-from_vec {s = c.into_iter-link-iterator.result} c.args.links (given.0 ∙ items) (given.1 ∙ (c.into_vec-link-items.result.ok.0 ∙ ap length items))) c.loop-link.yielded c.loop-link.link-iterator c.loop-link.yielded_by c.next.result c.next.new.self c.in-Some.link c.in-Some.is c.next.ensures.steps in
     let row : c.len.result ≡ length c.loop-link.all.items = omega (arith, c.len.ensures, c.loop-link.all.ok.0) in
     omega (arith, row, turn.0, c.loop-link.invariant.0, c.requires.links.count)
 
 pub row_words_of-requires-clause-link : goal.row_words_of-requires-clause-link
 row_words_of-requires-clause-link c =
     let given = c.into_iter-link-iterator.ensures.into_iter_gives in
-    let items = c.into_vec.ensures in
-    let turn = YieldsList-turn (YieldsList-from_vec {s = c.into_iter-link-iterator.result} c.args.links (given.0 ∙ items) (given.1 ∙ (c.into_vec.result.ok.0 ∙ ap length items))) c.loop-link.yielded c.loop-link.link-iterator c.loop-link.yielded_by c.next.result c.next.new.self c.in-Some.link c.in-Some.is c.next.ensures.steps in
+    let items = c.into_vec-link-items.ensures in
+    let turn = YieldsList-turn (YieldsList-from_vec {s = c.into_iter-link-iterator.result} c.args.links (given.0 ∙ items) (given.1 ∙ (c.into_vec-link-items.result.ok.0 ∙ ap length items))) c.loop-link.yielded c.loop-link.link-iterator c.loop-link.yielded_by c.next.result c.next.new.self c.in-Some.link c.in-Some.is c.next.ensures.steps in
     let counted : c.len.result ≡ length c.loop-link.all.items = omega (arith, c.len.ensures, c.loop-link.all.ok.0) in
     let row : length c.loop-link.yielded ≡ c.len.result = omega (arith, counted, c.loop-link.invariant.0) in
     let at : slice_get c.args.links c.len.result ≡ Some c.in-Some.link = subst (λ (k : ℕ). slice_get c.args.links k ≡ Some c.in-Some.link) row (slice_get_read c.args.links (length c.args.links) (length c.loop-link.yielded) c.in-Some.link refl turn.0 turn.1) in
@@ -31,8 +31,8 @@ row_words_of-requires-clause-link c =
 pub loop-link-preserved : goal.loop-link-preserved
 loop-link-preserved c =
     let given = c.into_iter-link-iterator.ensures.into_iter_gives in
-    let items = c.into_vec.ensures in
-    let turn = YieldsList-turn (YieldsList-from_vec {s = c.into_iter-link-iterator.result} c.args.links (given.0 ∙ items) (given.1 ∙ (c.into_vec.result.ok.0 ∙ ap length items))) c.loop-link.yielded c.loop-link.link-iterator c.loop-link.yielded_by c.next.result c.next.new.self c.in-Some.link c.in-Some.is c.next.ensures.steps in
+    let items = c.into_vec-link-items.ensures in
+    let turn = YieldsList-turn (YieldsList-from_vec {s = c.into_iter-link-iterator.result} c.args.links (given.0 ∙ items) (given.1 ∙ (c.into_vec-link-items.result.ok.0 ∙ ap length items))) c.loop-link.yielded c.loop-link.link-iterator c.loop-link.yielded_by c.next.result c.next.new.self c.in-Some.link c.in-Some.is c.next.ensures.steps in
     let counted : c.len.result ≡ length c.loop-link.all.items = omega (arith, c.len.ensures, c.loop-link.all.ok.0) in
     let row : length c.loop-link.yielded ≡ c.len.result = omega (arith, counted, c.loop-link.invariant.0) in
     let at : slice_get c.args.links c.len.result ≡ Some c.in-Some.link = subst (λ (k : ℕ). slice_get c.args.links k ≡ Some c.in-Some.link) row (slice_get_read c.args.links (length c.args.links) (length c.loop-link.yielded) c.in-Some.link refl turn.0 turn.1) in
@@ -44,6 +44,6 @@ loop-link-preserved c =
 pub returns : goal.returns
 returns c =
     let given = c.into_iter-link-iterator.ensures.into_iter_gives in
-    let items = c.into_vec.ensures in
-    let end = YieldsList-end (YieldsList-from_vec {s = c.into_iter-link-iterator.result} c.args.links (given.0 ∙ items) (given.1 ∙ (c.into_vec.result.ok.0 ∙ ap length items))) c.loop-link.yielded c.loop-link.link-iterator c.loop-link.yielded_by c.next.result c.next.new.self c.in-None.is c.next.ensures.steps in
+    let items = c.into_vec-link-items.ensures in
+    let end = YieldsList-end (YieldsList-from_vec {s = c.into_iter-link-iterator.result} c.args.links (given.0 ∙ items) (given.1 ∙ (c.into_vec-link-items.result.ok.0 ∙ ap length items))) c.loop-link.yielded c.loop-link.link-iterator c.loop-link.yielded_by c.next.result c.next.new.self c.in-None.is c.next.ensures.steps in
     record { count = omega (arith, c.loop-link.invariant.0, end.1, c.requires.links.count); each = c.loop-link.invariant.1 }
