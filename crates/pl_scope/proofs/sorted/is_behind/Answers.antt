@@ -1,4 +1,4 @@
-use Rattle.std.proofs.Common.{arith}
+use Rattle.std.proofs.Common.{◌-◌, arith}
 use Rattle.std.proofs.lemmas.Bool.{OnTrue_from, ltb-true}
 use Rattle.pl_scope.proofs.SortedLaws.{behind_last, behind_none}
 use Rattle.pl_scope.proofs.sorted.is_behind.Goals as goal
