@@ -1,4 +1,4 @@
-use Rattle.std.proofs.Common.{ℕ, ◌≤◌, List, length, subst, sym}
+use Rattle.std.proofs.Common.{◌-◌, List, take, drop, subst, sym}
 use Rattle.pl_scope.specs.Entries.{AreBetween}
 use Rattle.pl_scope.specs.Sorted.{IsFirst}
 use Rattle.pl_scope.specs.declared.entries.Entry.{Entry}
@@ -21,4 +21,4 @@ returns c =
     let es = c.as_slice-entries.result.now in
     let from = subst (λ (xs : List Entry). IsFirst xs c.args.first c.first_of-from.result) (sym c.as_slice-entries.ensures.value) c.first_of-from.ensures in
     let to = subst (λ (xs : List Entry). IsFirst xs c.args.end c.first_of-to.result) (sym c.as_slice-entries.ensures.value) c.first_of-to.ensures in
-    subst (λ (xs : List Entry). AreBetween xs c.args.first c.args.end c.index.result.now) c.as_slice-entries.ensures.value (are_between es c.args.first c.args.end c.first_of-from.result c.first_of-to.result from.point to.point from.bound to.bound)
+    subst (λ (xs : List Entry). AreBetween xs c.args.first c.args.end (take (c.first_of-to.result - c.first_of-from.result) (drop c.first_of-from.result es))) c.as_slice-entries.ensures.value (are_between es c.args.first c.args.end c.first_of-from.result c.first_of-to.result from.point to.point from.bound to.bound)
