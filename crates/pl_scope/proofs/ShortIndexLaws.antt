@@ -16,14 +16,13 @@ use Rattle.pl_sym.specs.Definers.{is_definer}
 use Rattle.pl_sym.specs.declared.class.Class.{Class}
 use Rattle.pl_sym.specs.declared.class.Class.TheVariants.{Other}
 use Rattle.pl_sym.specs.declared.symbol.Symbol.{Symbol}
-use Rattle.pl_scope.specs.Block.{HaveName}
 use Rattle.pl_scope.specs.Definers.{pair}
 use Rattle.pl_scope.specs.Entries.{is_entry, has_value, AreBetween, AreUnder, IsAdded}
 use Rattle.pl_scope.specs.Finds.{in_member, of_object, first_in, from_member}
+use Rattle.pl_scope.specs.Matching.{defines}
 use Rattle.pl_scope.specs.ScopeIndex.{best_of, IsBest}
 use Rattle.pl_scope.specs.ShortIndex.{mixed, short_key, key_at, member_of, end_of_hash, best_under, AreSorted, AreSymbolsAdded, AreVersions, HasShort, HaveDefiners, IsShortIndex}
 use Rattle.pl_scope.specs.VersionIndex.{IsVersionIndex}
-use Rattle.pl_scope.specs.declared.block.Block.{Block}
 use Rattle.pl_scope.specs.declared.entries.Entry.{Entry}
 use Rattle.pl_scope.specs.declared.found.Found.{Found}
 use Rattle.pl_scope.specs.declared.short_index.ShortIndex.{ShortIndex}
@@ -134,10 +133,11 @@ key_is o member i hash name s at definer named is =
     ∙ ap (λ (h : ℕ). Some (pair h member)) (sym is)
 
 -- the definers of a name are under its hash
-pub short_have : (index : ShortIndex) (member hash : ℕ) (b : Block) (es : List Entry) → HasShort index member b.object.now → hash ≡ mixed (gnu b.name.now) → AreUnder index.definers.entries.items (pair hash member) es → HaveName b es
-short_have index member hash b es has is under i s at definer =
-    let n = named_by b.object.now b.name.now b.class s definer in
-    from_under index.definers.entries.items es (pair hash member) i under (has.definers i (pair hash member) (key_is b.object.now member i hash b.name.now s at n.definer n.named is))
+pub short_have : (index : ShortIndex) (member hash : ℕ) (o : Object) (name : List ℕ) (class : Class) (es : List Entry) → HasShort index member o → hash ≡ mixed (gnu name) → AreUnder index.definers.entries.items (pair hash member) es
+    → (i : ℕ) (s : Symbol) → slice_get o.symbols i ≡ Some s → defines o name class s ≡ true → list_any (has_value i) es ≡ true
+short_have index member hash o name class es has is under i s at definer =
+    let n = named_by o name class s definer in
+    from_under index.definers.entries.items es (pair hash member) i under (has.definers i (pair hash member) (key_is o member i hash name s at n.definer n.named is))
 
 -- ---- the search
 

@@ -34,3 +34,10 @@ first_here es key place e rising lt le behind = record {
         rw read (le-ltb (get_or es k e).key key (omega (arith, at, le))),
   );
 }
+
+-- the same of the key that was read
+pub behind_read : (es : List Entry) (key place last own : ℕ) (e : Entry) → IsNonDecreasingBy (λ e. e.key) es → place ≤ length es → last + 1 ≡ place → own ≡ (get_or es last e).key → own < key → IsBehind es key place
+behind_read es key place last own e rising bound is read lower = behind_last es key place last e rising bound is (omega (arith, read, lower))
+
+pub first_read : (es : List Entry) (key place own : ℕ) (e : Entry) → IsNonDecreasingBy (λ e. e.key) es → place < length es → own ≡ (get_or es place e).key → key ≤ own → IsBehind es key place → IsFirst es key place
+first_read es key place own e rising lt read le behind = first_here es key place e rising lt (omega (arith, read, le)) behind

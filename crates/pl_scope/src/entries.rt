@@ -19,7 +19,7 @@ pub fn sort_entries(entries: &mut Vec<Entry>)
 }
 
 /// How many of the entries, which rise, have lower keys than a number.
-pub fn before(entries: &[Entry], key: u128) -> usize
+pub fn first_at(entries: &[Entry], key: u128) -> usize
     requires { IsNonDecreasingBy (λ e. e.key) entries.now }
     ensures bound { result ≤ length entries.now }
     ensures point { IsPartitionPoint (λ e. nat_lt e.key key ≡ true)
@@ -34,8 +34,8 @@ pub fn between(entries: &[Entry], first: u128, end: u128) -> &[Entry]
     requires range { first ≤ end }
     ensures { spec.AreBetween entries.now first end result.now }
 {
-    let from = before(entries, first);
-    let to = before(entries, end);
+    let from = first_at(entries, first);
+    let to = first_at(entries, end);
     &entries[from..to]
 }
 

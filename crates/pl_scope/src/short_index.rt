@@ -113,7 +113,9 @@ fn all_versions<'a>(alloc: Global, scope: &Scope<'a>) -> Result<Vec<VersionIndex
 }
 
 /// Whether an entry and the one so many behind it, if there is one, have the same keys, in whole numbers of a width.
-fn share(entries: &[Entry], place: usize, apart: usize, width: u64) -> bool {
+fn share(entries: &[Entry], place: usize, apart: usize, width: u64) -> bool
+    requires { 0 < width }
+{
     let first = entries.get(place);
     let second = entries.get(place.saturating_add(apart));
     match first {
@@ -186,7 +188,7 @@ pub fn of_member<'i>(index: &'i ShortIndex<'_>, hash: u32, member: u32) -> &'i [
 pub fn member_of(entry: &Entry) -> u32
     ensures { result ≡ spec.member_of entry.now }
 {
-    entry.key as u32
+    (entry.key % 0x1_0000_0000) as u32
 }
 
 /// The versions of a member.

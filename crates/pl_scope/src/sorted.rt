@@ -5,7 +5,7 @@ ghost use Rattle.std.specs.List.Sorted.{IsNonDecreasingBy};
 ghost use Rattle.pl_scope.specs.Entries as entries;
 ghost use Rattle.pl_scope.specs.Sorted as spec;
 
-use crate::entries::{Entry, before};
+use crate::entries::{Entry, first_at};
 use std::alloc::{AllocError, Global};
 
 /// So many steps are gone from where a search begins.
@@ -20,16 +20,15 @@ pub struct Sorted {
     pub starts: Vec<u32>,
 }
 
-/// The number of a key's range among so many.
-fn range_of(key: u64, count: usize) -> usize {
-    let upper = key / 0x1_0000_0000;
+/// The number of the range of a key's upper part among so many.
+fn range_of(upper: u64, count: usize) -> usize {
     (upper.wrapping_mul(count as u64) / 0x1_0000_0000) as usize
 }
 
 /// Gives the ranges up to a number that have no place yet this one.
 fn start_ranges(starts: &mut Vec<u32>, end: usize, place: usize) -> Result<(), AllocError> {
     for _ in starts.len()..end {
-        starts.push(place as u32)?;
+        starts.push((place % 0x1_0000_0000) as u32)?;
     }
     Ok(())
 }
@@ -39,7 +38,7 @@ fn starts_of(alloc: Global, entries: &[Entry]) -> Result<Vec<u32>, AllocError> {
     let count = entries.len();
     let mut starts = Vec::new(alloc);
     for place in 0..count {
-        let range = range_of(entries[place].key, count);
+        let range = range_of(entries[place].key / 0x1_0000_0000, count);
         start_ranges(&mut starts, range.saturating_add(1), place)?;
     }
     start_ranges(&mut starts, count, count)?;
@@ -48,7 +47,7 @@ fn starts_of(alloc: Global, entries: &[Entry]) -> Result<Vec<u32>, AllocError> {
 
 /// Entries that are in the order of their keys, with the places where searches begin. It fails only for want of memory.
 pub fn sorted_of(alloc: Global, entries: Vec<Entry>) -> Result<Sorted, AllocError>
-    ensures { IfOk result (λ sorted. sorted.entries.items ≡ entries.entry.items) }
+    ensures { IfOk result (λ sorted. sorted.entries.items ≡ entries.items) }
 {
     let starts = starts_of(alloc, &entries)?;
     Ok(Sorted { entries, starts })
@@ -56,7 +55,8 @@ pub fn sorted_of(alloc: Global, entries: Vec<Entry>) -> Result<Sorted, AllocErro
 
 /// Where a search for a key begins.
 fn start_of(sorted: &Sorted, key: u128) -> usize {
-    let range = range_of(key as u64, sorted.starts.len());
+    let upper = (key / 0x1_0000_0000 % 0x1_0000_0000) as u64;
+    let range = range_of(upper, sorted.starts.len());
     match sorted.starts.as_slice().get(range) {
         None => 0,
         Some(place) => *place as usize,
@@ -116,7 +116,7 @@ fn first_of(sorted: &Sorted, key: u128) -> usize
     ensures { spec.IsFirst sorted.now.entries.items key result }
 {
     match near_start(sorted, key) {
-        None => before(sorted.entries.as_slice(), key),
+        None => first_at(sorted.entries.as_slice(), key),
         Some(place) => place,
     }
 }
@@ -129,5 +129,6 @@ pub fn range(sorted: &Sorted, first: u128, end: u128) -> &[Entry]
 {
     let from = first_of(sorted, first);
     let to = first_of(sorted, end);
-    &sorted.entries[from..to]
+    let entries = sorted.entries.as_slice();
+    &entries[from..to]
 }

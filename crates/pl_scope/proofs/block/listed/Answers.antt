@@ -8,9 +8,6 @@ use Rattle.pl_scope.proofs.block.listed.Goals as goal
 pub of_index-requires : goal.of_index-requires
 of_index-requires c = are_rising c.args.block.now c.args.lists.now c.requires.lists
 
-pub of_index-in-Index-requires : goal.of_index-in-Index-requires
-of_index-in-Index-requires c = are_rising c.args.block.now c.args.lists.now c.requires.lists
-
 pub of_name-requires : goal.of_name-requires
 of_name-requires c = are_rising c.args.block.now c.args.lists.now c.requires.lists
 

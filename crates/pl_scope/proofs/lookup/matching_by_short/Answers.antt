@@ -12,5 +12,5 @@ of_member-among-requires c = c.requires.own.rising
 pub matching_in_block-requires : goal.matching_in_block-requires
 matching_in_block-requires c = record {
   versions = c.versions_at-versions.ensures c.args.object.now c.requires.own;
-  place = short_have c.args.definers.now c.args.member c.mixed.result _ c.of_member-among.result.now c.requires.own (c.mixed.ensures ∙ ap mixed c.requires.wanted.gnu) c.of_member-among.ensures;
+  place = short_have c.args.definers.now c.args.member c.mixed.result c.args.object.now c.args.wanted.now.name.now c.args.wanted.now.class c.of_member-among.result.now c.requires.own (c.mixed.ensures ∙ ap mixed c.requires.wanted.gnu) c.of_member-among.ensures;
 }

@@ -1,7 +1,6 @@
 use Rattle.std.proofs.Common.{List, subst, sym}
 use Rattle.std.specs.Prelude.{IfSome}
 use Rattle.std.specs.List.Sorted.{IsNonDecreasingBy}
-use Rattle.std.proofs.lemmas.Bool.{OnTrue_at}
 use Rattle.pl_scope.specs.Sorted.{IsFirst}
 use Rattle.pl_scope.specs.declared.entries.Entry.{Entry}
 use Rattle.pl_scope.proofs.sorted.near_start.Goals as goal
@@ -13,7 +12,7 @@ pub near-requires-clause-rising : goal.near-requires-clause-rising
 near-requires-clause-rising c = subst (λ (es : List Entry). IsNonDecreasingBy (λ e. e.key) es) (sym c.as_slice-entries.ensures.value) c.requires
 
 pub near-requires-clause-behind : goal.near-requires-clause-behind
-near-requires-clause-behind c = OnTrue_at c.if-is_behind.true c.if-is_behind.ensures
+near-requires-clause-behind c = c.if-is_behind.ensures
 
 pub returns-then-is_behind : goal.returns-then-is_behind
 returns-then-is_behind c = subst (λ (es : List Entry). IfSome c.near.result (IsFirst es c.args.key)) c.as_slice-entries.ensures.value c.near.ensures
