@@ -187,6 +187,23 @@ fn program_outcomes(
     Ok(all)
 }
 
+fn programs_of(
+    alloc: Global,
+    numbered: &Numbered<'_>,
+    stale: &[bool],
+    row_words: &[RowWords],
+) -> Result<Vec<Option<RowOutcome>>, NoMemory>
+    requires run { spec.IsStaleRun numbered.now stale.now }
+    requires row_words { spec.AreToldRows numbered.now stale.now row_words.now }
+    ensures { IfOk result (λ v. spec.AreProgramsMade numbered.now stale.now v.items) }
+{
+    let work = Work {
+        numbered: &*numbered,
+        row_words: &*row_words,
+    };
+    program_outcomes(alloc, &work, stale)
+}
+
 fn library_if(
     alloc: Global,
     numbered: &Numbered<'_>,
@@ -248,11 +265,7 @@ fn made_of(
         held: held.as_slice(),
     };
     let row_words = words_of_rows(alloc, numbered, links, &needed)?;
-    let work = Work {
-        numbered: &*numbered,
-        row_words: row_words.as_slice(),
-    };
-    let programs = program_outcomes(alloc, &work, stale)?;
+    let programs = programs_of(alloc, numbered, stale, row_words.as_slice())?;
     with_libraries(alloc, numbered, stale, row_words, programs)
 }
 

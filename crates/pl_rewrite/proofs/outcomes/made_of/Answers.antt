@@ -1,7 +1,7 @@
 use Rattle.std.proofs.Common.{refl, length, ap, subst, sym, ◌∙◌}
 use Rattle.pl_rewrite.specs.Outcomes.{AreHeldFlags}
 use Rattle.pl_rewrite.specs.RowWords.{AreRowWords}
-use Rattle.pl_rewrite.proofs.ProgramRowLaws.{have_words, links_needed, program_rows, told_rows}
+use Rattle.pl_rewrite.proofs.ProgramRowLaws.{have_words, links_needed, told_rows}
 use Rattle.pl_rewrite.proofs.outcomes.made_of.Goals as goal
 
 pub held_by_programs-requires-clause-one_each : goal.held_by_programs-requires-clause-one_each
@@ -15,16 +15,11 @@ words_of_rows-requires-clause-links c =
     let held = subst (AreHeldFlags c.args.numbered.now c.args.stale.now) (sym c.as_slice.ensures.value) c.in_ok-held.ensures in
     links_needed c.args.numbered.now c.args.stale.now c.as_slice.result.now c.args.links held c.requires.links
 
-pub program_outcomes-requires : goal.program_outcomes-requires
-program_outcomes-requires c =
+pub programs_of-requires-clause-row_words : goal.programs_of-requires-clause-row_words
+programs_of-requires-clause-row_words c =
     let n = c.args.numbered.now in
     let held = subst (AreHeldFlags n c.args.stale.now) (sym c.as_slice.ensures.value) c.in_ok-held.ensures in
-    let told = told_rows n _ c.args.stale.now c.as_slice-2.result.now (subst (AreRowWords n _) (sym c.as_slice-2.ensures.value) c.in_ok-row_words.ensures) refl held in
-    record {
-      work = record { numbered = c.requires.run.numbered; asked = told.asked; row_words = told.told };
-      count = c.requires.run.column.count;
-      rows = program_rows _ told.asked c.args.stale.now c.requires.run.numbered told.made told.held c.requires.run.column told.told;
-    }
+    told_rows n _ c.args.stale.now c.as_slice-2.result.now (subst (AreRowWords n _) (sym c.as_slice-2.ensures.value) c.in_ok-row_words.ensures) refl held
 
 pub with_libraries-requires-clause-row_words : goal.with_libraries-requires-clause-row_words
 with_libraries-requires-clause-row_words c =
