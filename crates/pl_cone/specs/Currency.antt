@@ -60,9 +60,9 @@ is_held ts (first ∷ others) place = holds_at ts (slice_get ts first) others pl
 -- ---- columns
 
 -- there is a place for each row of a table
-pub record HavePlaces (t : RunTable) (places : List ℕ) : Type 0 where
+pub record HavePlaces (t : RunTable) (starts : List ℕ) : Type 0 where
   pub table : IsRunTableOfSome t
-  pub places : length places ≡ length t.files.now
+  pub places : length starts ≡ length t.files.now
 
 abbrev pub held_at : RunTable → List ℕ → ℕ → Bool
 held_at t places row = is_held t.files.now (walk_of t row) (slice_index places row)

@@ -69,11 +69,11 @@ abbrev pub AreLibraryLinks : walked.WalkedFiles → List Link → Type 0
 AreLibraryLinks w links = (row : ℕ) (l : Link) (h : HasWalk w row) → is_library_row w row ≡ true → fits w h.taken h.rows ≡ Ok tt → slice_get links row ≡ Some l → IsLinkOf w.index.now (walked_by w.files.now h.rows) l
 
 -- a row has a walk, there is a link for each row, and those of the libraries tell what varies, if it is another's
-pub record MayLinkRow (w : walked.WalkedFiles) (row : ℕ) (links : List Link) : Type 0 where
+pub record MayLinkRow (w : walked.WalkedFiles) (r : ℕ) (links : List Link) : Type 0 where
   pub walked : IsWalked w
-  pub row : HasWalk w row
+  pub row : HasWalk w r
   pub sized : length links ≡ length w.files.now
-  pub libraries : is_library_row w row ≡ false → AreLibraryLinks w links
+  pub libraries : is_library_row w r ≡ false → AreLibraryLinks w links
 
 -- ---- all rows
 

@@ -117,10 +117,10 @@ abbrev pub TellLinks : Walked → List ℕ → List Link → Type 0
 TellLinks own walk links = (linking : WalkLinking) → linking.scope.now ≡ own → linking.places.now ≡ zeros own → TellOfOthers linking walk links
 
 -- a walk has a first member, each has a link, and those of the others tell what varies
-pub record MayLink (own : Walked) (walk : List ℕ) (links : List Link) : Type 0 where
+pub record MayLink (own : Walked) (rows : List ℕ) (links : List Link) : Type 0 where
   pub some : 0 < length own
-  pub walk : HaveLinks own walk links
-  pub tell : TellLinks own walk links
+  pub walk : HaveLinks own rows links
+  pub tell : TellLinks own rows links
 
 -- what its relocations find where its walk links; or the refusal
 abbrev pub LinksProgram : Walked → Result Link Skip → Type 0

@@ -75,9 +75,10 @@ fn form_of(
     let digest = digest_at(numbered, row);
     let original = taken.original();
     let listed = list.as_slice();
+    let fills = made.fills;
     let rows = made.rows.as_slice();
     match form_program_with(
-        alloc, original, object, listed, made.fills, rows, version, &digest,
+        alloc, original, object, listed, fills, rows, version, &digest,
     ) {
         Ok(mut file) => {
             file.shrink_to_fit();
