@@ -34,6 +34,6 @@ returns-in-Ok c = (
   ),
 )
 
-pub returns : goal.returns
-returns c =
+pub returns-in_ok-refused-in-Err : goal.returns-in_ok-refused-in-Err
+returns-in_ok-refused-in-Err c =
     others_stop c.args.self.now c.requires.linking c.requires.links.some c.in-Err.fault c.in_ok-refused-in-Err.field-0 c.in_ok-found.ensures.1 (sym c.in-Err.ensures) c.in_ok-refused-in-Err.ensures
