@@ -16,6 +16,9 @@ use std::alloc::{AllocError, Global};
 /// By how many bytes the extension is aligned.
 const EXTENSION_ALIGN: u64 = 16;
 
+/// No fewer zeros than align the lists, and what follows the extension.
+const MOST_ALIGNING: usize = 64;
+
 /// Puts those of the first bytes, which are for a place, that lie in the zeros of the last PT_LOAD, and answers those for the places behind it.
 fn put_behind<'a>(zeros: &mut [u8], spot: &Spot, flat: &'a [u8]) -> &'a [u8]
     requires { spot.now.behind + spot.now.hidden ≤ length zeros.old }
@@ -46,18 +49,28 @@ fn zeros_of(last: &Segment) -> u64
     last.memsz.saturating_sub(last.filesz)
 }
 
-/// The zeros of the last PT_LOAD, with the bytes of the places there.
+/// How many bytes the extension has at most, with zeros up to a multiple of 16.
+fn room_for(last: &Segment, lists: &Extension) -> usize {
+    (zeros_of(last) as usize)
+        .saturating_add(lists.strings.len())
+        .saturating_add(lists.rows.len())
+        .saturating_add(lists.conflicts.len())
+        .saturating_add(MOST_ALIGNING)
+}
+
+/// The zeros of the last PT_LOAD, with the bytes of the places there, in a block that has room for so many bytes.
 #[tactic(auto, unfolding(crate::specs::Parts::zeros_part))]
 fn zeros_part(
     alloc: Global,
     last: &Segment,
     spots: &[Spot],
     flat: &[u8],
+    room: usize,
 ) -> Result<Vec<u8>, AllocError>
     requires spots { LieInZeros last.now spots.now }
     ensures { IfOk result (λ v. v.items ≡ parts.zeros_part last.now spots.now flat.now) }
 {
-    let mut zeros = Vec::new(alloc);
+    let mut zeros = Vec::with_capacity(alloc, room)?;
     push_zeros(&mut zeros, zeros_of(last))?;
     put_hidden(&mut zeros, spots, flat);
     Ok(zeros)
@@ -115,7 +128,7 @@ pub fn extension(
     requires spots { LieInZeros last.now spots.now }
     ensures { IfOk result (λ v. v.items ≡ parts.extension last.now spots.now flat.now lists.now) }
 {
-    let mut block = zeros_part(alloc, last, spots, flat)?;
+    let mut block = zeros_part(alloc, last, spots, flat, room_for(last, lists))?;
     let gap = extension_at(last) - (last.vaddr + last.memsz);
     push_zeros(&mut block, gap)?;
     block.extend_from_slice(&lists_part(alloc, lists)?)?;
@@ -124,11 +137,11 @@ pub fn extension(
 
 /// A block with zeros up to a multiple of 16 bytes, so that what follows in the file keeps its alignment.
 #[tactic(auto, unfolding(crate::specs::Parts::whole_extension))]
-pub fn whole_extension(alloc: Global, block: &[u8]) -> Result<Vec<u8>, AllocError>
-    ensures { IfOk result (λ v. v.items ≡ parts.whole_extension block.now) }
+pub fn whole_extension(block: Vec<u8>) -> Result<Vec<u8>, AllocError>
+    ensures { IfOk result (λ v. v.items ≡ parts.whole_extension block.items) }
 {
-    let mut whole = Vec::from_slice(alloc, block)?;
-    let size = block.len() as u64;
+    let mut whole = block;
+    let size = whole.len() as u64;
     push_zeros(&mut whole, round_up(size, EXTENSION_ALIGN) - size)?;
     Ok(whole)
 }

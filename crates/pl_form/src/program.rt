@@ -313,10 +313,11 @@ fn inserted(
     ensures { IfOk result (λ more. more ≡ tables.inserted last.now spots.now flat.now lists.now) }
 {
     let block = extension(alloc, last, spots, flat, lists)?;
-    let bytes = whole_extension(alloc, &block)?;
+    let grown = block.len() as u64;
+    let bytes = whole_extension(block)?;
     Ok(Insertion {
         bytes: Rows::from_vec(bytes),
-        grown: block.len() as u64,
+        grown,
     })
 }
 
