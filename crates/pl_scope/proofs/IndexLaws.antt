@@ -3,14 +3,15 @@ use Rattle.std.proofs.Common.{◌≡◌, ℕ, zero, suc, ◌+◌, ◌-◌, ◌<�
 use Rattle.std.specs.Prelude.{nat_lt, ◌==◌, IfSome}
 use Rattle.std.specs.Option.{option_to_list}
 use Rattle.std.specs.List.{filter, filter_map}
-use Rattle.std.specs.List.Sorted.{IsPartitionPoint}
-use Rattle.std.proofs.lemmas.Bool.{cases_Bool, eq-eqb, ne_eqb, ltb-true, ltb-false}
-use Rattle.std.proofs.lemmas.List.{take_more, take-append-drop, append-nil, length-take, length-drop, get_or-take, get_or-drop}
+use Rattle.std.specs.List.{AllWithin}
+use Rattle.std.specs.List.Sorted.{IsPartitionPoint, IsNonDecreasingBy}
+use Rattle.std.proofs.lemmas.Bool.{cases_Bool, eq-eqb, ne_eqb, ltb-true, ltb-false, le-ltb, lt-ltb}
+use Rattle.std.proofs.lemmas.List.{take_more, take-append-drop, append-nil, length-take, length-drop, get_or-take, get_or-drop, get_or_default}
 use Rattle.std.proofs.lemmas.List.Elements.{filter-append, filter_map-append}
 use Rattle.pl_sym.specs.declared.symbol.Symbol.{Symbol}
 use Rattle.pl_hash.specs.Hash.{gnu}
 use Rattle.pl_object.specs.declared.object.Object.{Object}
-use Rattle.pl_scope.specs.Index.{entry_of, entries_of}
+use Rattle.pl_scope.specs.Index.{entry_of, entries_of, IsBehind, IsFirst}
 use Rattle.pl_scope.specs.declared.index.Entry.{Entry}
 
 -- ---- the definers of an object
@@ -117,3 +118,37 @@ module _ (es : List Entry) (h i j : ℕ)
       ∙ ap (λ (xs : List Entry). xs ++ filter is_of rest) (filter_keeps is_of mid within)
       ∙ ap (λ (xs : List Entry). mid ++ xs) (filter_drops is_of rest above)
       ∙ append-nil mid)
+
+-- ---- where the entries of a hash end
+
+-- entries with lower hashes than a number have lower ones than the next number
+pub behind_next : (es : List Entry) (h i : ℕ) → i ≤ length es → AllWithin (λ e. nat_lt e.hash h ≡ true) es 0 i → IsBehind es (h + 1) i
+behind_next es h i bound lower = record {
+  bound = bound;
+  lower = λ k d low high.
+      let less = ltb-true (get_or es k d).hash h (lower k d low high) in
+      lt-ltb (get_or es k d).hash (h + 1) (omega (arith, less));
+}
+
+-- an entry more that has a lower hash
+pub behind_more : (es : List Entry) (h place own : ℕ) (e : Entry) → place < length es → own ≡ (get_or es place e).hash → own < h → IsNonDecreasingBy (λ e. e.hash) es → IsBehind es h place → IsBehind es h (place + 1)
+behind_more es h place own e lt read less rising behind = record {
+  bound = omega (arith, lt);
+  lower = λ k d low high.
+      let at = rising k place e (omega (arith, high)) lt in
+      let same = get_or_default es k d e (omega (arith, high, lt)) in
+      rw same (lt-ltb (get_or es k e).hash h (omega (arith, at, read, less)));
+}
+
+-- and where the entry at a place has none
+pub first_here : (es : List Entry) (h place own : ℕ) (e : Entry) → place < length es → own ≡ (get_or es place e).hash → h ≤ own → IsNonDecreasingBy (λ e. e.hash) es → IsBehind es h place → IsFirst es h place
+first_here es h place own e lt read le rising behind = record {
+  bound = behind.bound;
+  point = (
+    behind.lower,
+    λ k d low high.
+        let at = rising place k e low high in
+        let same = get_or_default es k d e high in
+        rw same (le-ltb (get_or es k e).hash h (omega (arith, at, read, le))),
+  );
+}

@@ -1,5 +1,7 @@
 -- The definers of objects by the hashes of their names.
-use Rattle.std.specs.Prelude.{ℕ, Bool, ◌&&◌, ◌==◌, List, filter, Option, Some, None, if◌then◌else◌}
+use Rattle.std.specs.Prelude.{◌≡◌, ◌≤◌, ℕ, Bool, true, false, nat_lt, ◌&&◌, ◌==◌, List, filter, length, Option, Some, None, if◌then◌else◌}
+use Rattle.std.specs.List.{AllWithin}
+use Rattle.std.specs.List.Sorted.{IsPartitionPoint}
 use Rattle.pl_sym.specs.Definers.{is_definer}
 use Rattle.pl_sym.specs.declared.symbol.Symbol.{Symbol}
 use Rattle.pl_sym.specs.declared.class.Class.TheVariants.{Other}
@@ -19,3 +21,13 @@ is_entry hash member e = e.hash == hash && e.member == member
 -- those of a hash, in their order
 abbrev pub entries_of : List Entry → ℕ → List Entry
 entries_of index hash = filter (λ e. e.hash == hash) index
+
+-- the entries before a place have lower hashes than a number
+pub record IsBehind (es : List Entry) (hash place : ℕ) : Type 0 where
+  pub bound : place ≤ length es
+  pub lower : AllWithin (λ e. nat_lt e.hash hash ≡ true) es 0 place
+
+-- the place of the first entry whose hash is not lower than a number
+pub record IsFirst (es : List Entry) (hash place : ℕ) : Type 0 where
+  pub bound : place ≤ length es
+  pub point : IsPartitionPoint (λ e. nat_lt e.hash hash ≡ true) (λ e. nat_lt e.hash hash ≡ false) es place
