@@ -1,12 +1,12 @@
 -- Ranges that rise, and ranges that are made so.
-use Rattle.std.proofs.Common.{◌≡◌, ℕ, zero, suc, ◌+◌, ◌-◌, ◌<◌, ◌≤◌, max, Bool, true, false, List, [], ◌∷◌, length, get_or, take, drop, refl, sym, ap, ◌∙◌, arith, inl, inr}
+use Rattle.std.proofs.Common.{◌≡◌, ℕ, zero, suc, ◌+◌, ◌-◌, ◌<◌, ◌≤◌, max, Bool, true, false, not, List, [], ◌∷◌, length, get_or, take, drop, refl, sym, ap, ◌∙◌, arith, inl, inr}
 use Rattle.std.specs.Prelude.{◌&&◌, ◌||◌, nat_le, nat_lt}
-use Rattle.std.specs.List.{All, list_any}
+use Rattle.std.specs.List.{All, AllWithin, list_any}
 use Rattle.std.specs.List.Sorted.{IsNonDecreasingBy, IsPartitionedBy, IsPartitionPoint, IsPermutation}
-use Rattle.std.proofs.lemmas.Bool.{and_parts, cases_Bool, cases_order, false≢true}
+use Rattle.std.proofs.lemmas.Bool.{and_parts, cases_Bool, cases_lt, cases_order, false≢true}
 use Rattle.std.proofs.lemmas.Bool.Decides.{nat_tests}
 use Rattle.std.proofs.Math.Bool.{and-false, or-false}
-use Rattle.std.proofs.lemmas.List.{length-take, length-drop, get_or-take, get_or-drop, take-append-drop}
+use Rattle.std.proofs.lemmas.List.{get_or_default, length-take, length-drop, get_or-take, get_or-drop, take-append-drop}
 use Rattle.std.proofs.lemmas.List.Folds.{list_any-append, list_any_none, list_any_at}
 use Rattle.std.proofs.lemmas.List.Sorted.{list_any-IsPermutation, IsPartitionedBy-leb, IsPartitionedBy-ltb, IsNonDecreasingBy-drop}
 use Rattle.pl_elf.specs.declared.range.Range.{Range}
@@ -203,3 +203,33 @@ pub apart_has : (old ranges : List Range) (a : ℕ) → IsPermutation old ranges
 apart_has old ranges a same sorted =
     let all : nat_le 0 a ≡ true = grind (arith, nat_tests) in
     merged_has 0 ranges a sorted ∙ ap (λ (b : Bool). b && list_any (has a) ranges) all ∙ sym (list_any-IsPermutation (has a) old ranges same)
+
+-- ---- addresses between ranges
+
+module _ (rs : List Range) (a i : ℕ) (e : Range) (h : rises 0 rs ≡ true) where
+  pub first_end : 0 < i → i ≤ length rs → (get_or rs (i - 1) e).end ≤ a → AllWithin (λ r. r.end ≤ a) rs 0 i
+  first_end some within last = λ k d low less.
+      let le = ends_rise rs h k (i - 1) d (omega arith) (omega arith) in
+      let same = get_or_default rs (i - 1) d e (omega arith) in
+      let same_end : (get_or rs (i - 1) d).end ≡ (get_or rs (i - 1) e).end = ap (λ (r : Range). r.end) same in
+      omega (arith, le, last, same_end)
+
+  pub others_start : a ≤ (get_or rs i e).start → AllWithin (λ r. a ≤ r.start) rs i (length rs)
+  others_start first = λ k d low less.
+      let le = starts_rise rs h i k d low less in
+      let same = get_or_default rs i d e (omega arith) in
+      let same_start : (get_or rs i d).start ≡ (get_or rs i e).start = ap (λ (r : Range). r.start) same in
+      omega (arith, le, first, same_start)
+
+-- a range that does not start before an end
+pub starts_past : (b : Bool) (start limit : ℕ) → b ≡ nat_lt start limit → not b ≡ true → limit ≤ start
+starts_past b start limit is late =
+    let other : not (nat_lt start limit) ≡ true = ap not (sym is) ∙ late in
+    grind (arith, nat_tests)
+
+-- no range has an address between those before an index and the others
+pub between : (rs : List Range) (from to i a : ℕ) → AllWithin (λ r. r.end ≤ from) rs 0 i → AllWithin (λ r. to ≤ r.start) rs i (length rs) → from ≤ a → a < to → list_any (has a) rs ≡ false
+between rs from to i a before after low high = list_any_none (has a) rs (λ k d within. elim (cases_lt k i) [
+  | inl less ↦ let ended = before k d (omega arith) less in grind (arith, nat_tests)
+  | inr le ↦ let late = after k d le within in grind (arith, nat_tests)
+])

@@ -1,7 +1,7 @@
 -- Patches by the words that they touch.
 use Rattle.std.proofs.Common.{◌≡◌, ℕ, suc, ◌+◌, ◌-◌, ◌/◌, ◌<◌, ◌≤◌, Bool, true, false, cond, not, List, [], ◌∷◌, ◌++◌, length, get_or, take, drop, refl, sym, ap, subst, ◌∙◌, ◌⊎◌, arith, inl, inr}
 use Rattle.std.specs.Prelude.{◌&&◌, ◌||◌, ◌==◌, nat_le, nat_lt, fold, filter}
-use Rattle.std.specs.List.{All, list_any}
+use Rattle.std.specs.List.{AllWithin, All, list_any}
 use Rattle.std.specs.List.Sorted.{IsNonDecreasingBy, IsPartitionPoint, IsPermutation, IsStableByKey, ties}
 use Rattle.std.specs.Ordering.{nat_cmp, is_lt}
 use Rattle.std.proofs.lemmas.Bool.{cases_Bool, cases_lt, or_parts}
@@ -246,3 +246,18 @@ untouched_by patches (t ∷ ts) a found none =
 
 pub untouched : (patches : List Fill) (ts : List Touch) (a found : ℕ) → IsIndex patches ts → list_any (λ t. t.number == a / 8) ts ≡ false → fold (laid a) found patches ≡ found
 untouched patches ts a found i none = sym (i.whole a found) ∙ untouched_by patches ts a found none
+
+-- ---- where the touches before a number end
+
+module _ (ts : List Touch) (n i : ℕ) (e : Touch) (rising : IsNonDecreasingBy (λ t. t.number) ts) where
+  pub first_before : 0 < i → i ≤ length ts → (get_or ts (i - 1) e).number < n → AllWithin (λ t. nat_lt t.number n ≡ true) ts 0 i
+  first_before some within last = λ k d low less.
+      let le = rising k (i - 1) d (omega arith) (omega arith) in
+      let same = get_or_default ts (i - 1) d e (omega arith) in
+      grind (arith, nat_tests)
+
+  pub others_after : n ≤ (get_or ts i e).number → AllWithin (λ t. nat_lt t.number n ≡ false) ts i (length ts)
+  others_after first = λ k d low less.
+      let le = rising i k d low less in
+      let same = get_or_default ts i d e (omega arith) in
+      grind (arith, nat_tests)

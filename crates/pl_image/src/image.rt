@@ -14,7 +14,8 @@ use crate::patch::patch_word;
 use crate::piece::{
     byte_at, has_word, next_stored, piece_at, pieces_begin, pieces_end, stored_word,
 };
-use crate::ranges::{any_has, end_at, near};
+use crate::place::Place;
+use crate::ranges::{any_has, end_at, is_clear};
 use crate::touched::{Touch, index_patches, next_touched, patched, touching};
 use crate::{LoadedObject, Patch, Piece};
 use pl_base::word64;
@@ -75,7 +76,7 @@ impl<'a> Image<'a> {
         ensures { result ≡ spec.byte_of self.now address }
     {
         let below = loaded_byte(&self.objects, address)?;
-        let touching = touching(&self.patches, &self.touched, address / 8);
+        let touching = touching(&self.patches, &self.touched, address / 8, 0);
         Some(self.shown(touching, below, address))
     }
 
@@ -105,31 +106,37 @@ impl<'a> Image<'a> {
     }
 
     /// Where the masked addresses end that begin with one, which is the address itself where it is not masked.
-    fn masked_end(&self, address: u64) -> u64
+    fn masked_end(&self, address: u64, place: &mut Place) -> u64
         ensures after { address ≤ result }
         ensures masked { (a : ℕ) → address ≤ a → a < result → spec.any_masked self.now.objects a
             ≡ true }
     {
-        end_at(&self.masked, address)
+        end_at(&self.masked, address, &mut place.masked)
     }
 
     /// Whether no byte of the word of a number is masked.
-    fn is_shown(&self, number: u64) -> bool
+    fn is_shown(&self, number: u64, place: Place) -> bool
         requires { number < WORDS }
         ensures { result ≡ true → (a : ℕ) → 8 * number ≤ a → a < 8 * number + 8
             → spec.any_masked self.now.objects a ≡ false }
     {
-        near(&self.masked, 8 * number, 8).len() == 0
+        is_clear(&self.masked, 8 * number, 8, place.masked)
     }
 
     /// The word of a number of an object with these pieces, where it is one of a file as it stands: no patch touches it, and none of its bytes is masked.
-    fn plain_word(&self, pieces: &[Piece<'_>], touching: &[Touch], number: u64) -> Option<u64>
+    fn plain_word(
+        &self,
+        pieces: &[Piece<'_>],
+        touching: &[Touch],
+        number: u64,
+        place: Place,
+    ) -> Option<u64>
         requires own { spec.AreOwn self.now pieces.now }
         requires touching { AreTouching self.now.patches touching.now number }
         requires limit { number < WORDS }
         ensures { IfSome result (IsOwnWord self.now pieces.now number) }
     {
-        if touching.len() > 0 || !self.is_shown(number) {
+        if touching.len() > 0 || !self.is_shown(number, place) {
             return None;
         }
         match piece_at(pieces, 8 * number) {
@@ -139,14 +146,20 @@ impl<'a> Image<'a> {
     }
 
     /// The word of a number of an object with these pieces, where the last patch that touches it has all its bytes: one piece has their addresses, and none of them is masked.
-    fn patched_word(&self, pieces: &[Piece<'_>], touching: &[Touch], number: u64) -> Option<u64>
+    fn patched_word(
+        &self,
+        pieces: &[Piece<'_>],
+        touching: &[Touch],
+        number: u64,
+        place: Place,
+    ) -> Option<u64>
         requires own { spec.AreOwn self.now pieces.now }
         requires touching { AreTouching self.now.patches touching.now number }
         requires only { All (λ touch. touch.number ≡ number) touching.now }
         requires limit { number < WORDS }
         ensures { IfSome result (IsOwnWord self.now pieces.now number) }
     {
-        if touching.len() == 0 || !self.is_shown(number) {
+        if touching.len() == 0 || !self.is_shown(number, place) {
             return None;
         }
         let last = &touching[touching.len() - 1];
@@ -159,7 +172,13 @@ impl<'a> Image<'a> {
     }
 
     /// The word of a number of an object with these pieces, where it is one of a file or one of a patch.
-    fn whole_word(&self, pieces: &[Piece<'_>], touching: &[Touch], number: u64) -> Option<u64>
+    fn whole_word(
+        &self,
+        pieces: &[Piece<'_>],
+        touching: &[Touch],
+        number: u64,
+        place: Place,
+    ) -> Option<u64>
         requires own { spec.AreOwn self.now pieces.now }
         requires touching { AreTouching self.now.patches touching.now number }
         requires only { All (λ touch. touch.number ≡ number) touching.now }
@@ -167,9 +186,9 @@ impl<'a> Image<'a> {
         ensures { IfSome result (IsOwnWord self.now pieces.now number) }
     {
         if touching.len() == 0 {
-            self.plain_word(pieces, touching, number)
+            self.plain_word(pieces, touching, number, place)
         } else {
-            self.patched_word(pieces, touching, number)
+            self.patched_word(pieces, touching, number, place)
         }
     }
 
@@ -196,20 +215,20 @@ impl<'a> Image<'a> {
     }
 
     /// The word of a number of an object with these pieces.
-    fn word(&self, pieces: &[Piece<'_>], number: u64) -> u64
+    fn word(&self, pieces: &[Piece<'_>], number: u64, place: Place) -> u64
         requires own { spec.AreOwn self.now pieces.now }
         requires limit { number < WORDS }
         ensures { result ≡ word_in (spec.own_memory self.now pieces.now) (8 * number) }
     {
-        let touching = touching(&self.patches, &self.touched, number);
-        match self.whole_word(pieces, touching, number) {
+        let touching = touching(&self.patches, &self.touched, number, place.touched);
+        match self.whole_word(pieces, touching, number, place) {
             Some(word) => word,
             None => self.mixed_word(pieces, touching, number),
         }
     }
 
     /// The number of the first word from one on with a byte of a file or of a patch, `WORDS` where there is none.
-    fn next_content(&self, pieces: &[Piece<'_>], from: u64) -> u64
+    fn next_content(&self, pieces: &[Piece<'_>], from: u64, place: &mut Place) -> u64
         requires own { spec.AreOwn self.now pieces.now }
         requires limit { from ≤ WORDS }
         ensures within { (from ≤ result) × (result ≤ WORDS) }
@@ -217,11 +236,11 @@ impl<'a> Image<'a> {
         ensures found { result < WORDS → (list_any (spec.stores_in result) pieces.now || is_touched
             self.now.patches result) ≡ true }
     {
-        next_stored(pieces, from).min(next_touched(&self.touched, from))
+        next_stored(pieces, from).min(next_touched(&self.touched, from, &mut place.touched))
     }
 
     /// A number from one on, up to which the words of an object with these pieces are 0. Words that are masked whole are passed over.
-    fn next_word(&self, pieces: &[Piece<'_>], from: u64) -> u64
+    fn next_word(&self, pieces: &[Piece<'_>], from: u64, place: &mut Place) -> u64
         requires own { spec.AreOwn self.now pieces.now }
         requires limit { from ≤ WORDS }
         ensures within { (from ≤ result) × (result ≤ WORDS) }
@@ -229,10 +248,10 @@ impl<'a> Image<'a> {
         ensures found { result < WORDS → (list_any (spec.stores_in result) pieces.now || is_touched
             self.now.patches result) ≡ true }
     {
-        let number = self.next_content(pieces, from);
-        let shown = (self.masked_end(8 * number) / 8).min(WORDS);
+        let number = self.next_content(pieces, from, place);
+        let shown = (self.masked_end(8 * number, place) / 8).min(WORDS);
         if number < shown {
-            self.next_content(pieces, shown)
+            self.next_content(pieces, shown, place)
         } else {
             number
         }
@@ -251,10 +270,14 @@ impl<'a> Image<'a> {
             lines.old.items lines.new.items (K.seen sink.old) (K.seen sink.new) }
     {
         let end = pieces_end(pieces);
-        let mut number = self.next_word(pieces, pieces_begin(pieces));
+        let mut place = Place {
+            touched: 0,
+            masked: 0,
+        };
+        let mut number = self.next_word(pieces, pieces_begin(pieces), &mut place);
         while number < end {
-            add_word(lines, sink, 8 * number, self.word(pieces, number))?;
-            number = self.next_word(pieces, number + 1);
+            add_word(lines, sink, 8 * number, self.word(pieces, number, place))?;
+            number = self.next_word(pieces, number + 1, &mut place);
         }
         Ok(())
     }

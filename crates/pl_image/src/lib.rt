@@ -12,6 +12,7 @@ mod parts;
 mod patch;
 mod patched;
 mod piece;
+mod place;
 mod ranges;
 mod touched;
 

@@ -1,6 +1,7 @@
 // Ranges of addresses.
-ghost use Rattle.std.specs.Prelude.{◌≡◌, ℕ, ◌+◌, ◌≤◌, ◌<◌, nat_lt, true, IfOk};
-ghost use Rattle.std.specs.List.{All, list_any};
+ghost use Rattle.std.specs.Prelude.{◌≡◌, ℕ, ◌+◌, ◌≤◌, ◌<◌, nat_lt, true, false, length, IfOk};
+ghost use Rattle.std.specs.Bool.{OnTrue};
+ghost use Rattle.std.specs.List.{All, AllWithin, list_any};
 ghost use Rattle.std.specs.List.Sorted.{IsNonDecreasingBy, IsPermutation};
 ghost use Rattle.pl_image.specs.Index as spec;
 ghost use Rattle.pl_elf.specs.Ranges.{has};
@@ -79,13 +80,70 @@ pub fn any_has(ranges: &[Range], address: u64) -> bool
     address < ranges[after - 1].end
 }
 
-/// Where the range ends that has an address, of ranges that rise; the address itself where none has it.
-pub fn end_at(ranges: &[Range], address: u64) -> u64
+/// Whether the ranges before an index, of some that rise, end at or before an address.
+fn all_end_by(ranges: &[Range], address: u64, index: usize) -> bool
+    requires rises { spec.rises 0 ranges.now ≡ true }
+    requires bound { index ≤ length ranges.now }
+    ensures { OnTrue result (AllWithin (λ range. range.end ≤ address) ranges.now 0 index) }
+{
+    if index == 0 {
+        true
+    } else {
+        ranges[index - 1].end <= address
+    }
+}
+
+/// Whether the ranges from an index on, of some that rise, start at or after the end of so many addresses.
+fn all_start_past(ranges: &[Range], from: u64, size: u64, index: usize) -> bool
+    requires rises { spec.rises 0 ranges.now ≡ true }
+    requires bound { index ≤ length ranges.now }
+    ensures { OnTrue result (AllWithin (λ range. from + size ≤ range.start) ranges.now index
+        (length ranges.now)) }
+{
+    if index == ranges.len() {
+        true
+    } else {
+        !starts_before(&ranges[index], from, size)
+    }
+}
+
+/// Whether so many addresses lie between the ranges, which rise, before an index and those from it on.
+fn is_between(ranges: &[Range], from: u64, size: u64, index: usize) -> bool
+    requires { spec.rises 0 ranges.now ≡ true }
+    ensures { OnTrue result ((a : ℕ) → from ≤ a → a < from + size
+        → list_any (has a) ranges.now ≡ false) }
+{
+    if index <= ranges.len() && all_end_by(ranges, from, index) {
+        all_start_past(ranges, from, size, index)
+    } else {
+        false
+    }
+}
+
+/// Whether none of the ranges, which rise, has one of so many addresses. The search begins at a guess of how many ranges start before them.
+pub fn is_clear(ranges: &[Range], from: u64, size: u64, guess: usize) -> bool
+    requires { spec.rises 0 ranges.now ≡ true }
+    ensures { OnTrue result ((a : ℕ) → from ≤ a → a < from + size
+        → list_any (has a) ranges.now ≡ false) }
+{
+    if is_between(ranges, from, size, guess) {
+        true
+    } else {
+        near(ranges, from, size).len() == 0
+    }
+}
+
+/// Where the range ends that has an address, of ranges that rise; the address itself where none has it. The search begins at a guess of how many ranges start at or before the address, which becomes their number.
+pub fn end_at(ranges: &[Range], address: u64, guess: &mut usize) -> u64
     requires { spec.rises 0 ranges.now ≡ true }
     ensures after { address ≤ result }
     ensures inside { (a : ℕ) → address ≤ a → a < result → list_any (has a) ranges.now ≡ true }
 {
+    if is_between(ranges, address, 8, *guess) {
+        return address;
+    }
     let after = ranges.partition_point(|range| range.start <= address);
+    *guess = after;
     if after == 0 {
         return address;
     }

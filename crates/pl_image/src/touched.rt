@@ -1,6 +1,7 @@
 // Patches by the words that they touch.
 ghost use Rattle.std.specs.Prelude.{◌≡◌, ℕ, ◌+◌, ◌≤◌, ◌<◌, ◌^◌, ◌==◌, true, false, nat_lt, fold, length, IfOk, OnOk};
-ghost use Rattle.std.specs.List.{All, list_any};
+ghost use Rattle.std.specs.Bool.{OnTrue};
+ghost use Rattle.std.specs.List.{All, AllWithin, list_any};
 ghost use Rattle.std.specs.List.Sorted.{IsNonDecreasingBy, IsPartitionPoint};
 ghost use Rattle.pl_image.specs.Index as spec;
 
@@ -74,15 +75,76 @@ fn before(touched: &[Touch], number: u64) -> usize
     touched.partition_point(|touch| touch.number < number)
 }
 
-/// The patches that touch a word.
-pub fn touching<'t>(patches: &[Patch], touched: &'t [Touch], number: u64) -> &'t [Touch]
+/// Whether the touches before an index, of some that ascend, are of words before a number.
+fn all_before(touched: &[Touch], number: u64, index: usize) -> bool
+    requires rising { IsNonDecreasingBy (λ t. t.number) touched.now }
+    requires bound { index ≤ length touched.now }
+    ensures { OnTrue result (AllWithin (λ t. nat_lt t.number number ≡ true) touched.now 0 index) }
+{
+    if index == 0 {
+        true
+    } else {
+        touched[index - 1].number < number
+    }
+}
+
+/// Whether the touches from an index on, of some that ascend, are of words from a number on.
+fn none_before(touched: &[Touch], number: u64, index: usize) -> bool
+    requires rising { IsNonDecreasingBy (λ t. t.number) touched.now }
+    requires bound { index ≤ length touched.now }
+    ensures { OnTrue result (AllWithin (λ t. nat_lt t.number number ≡ false) touched.now index
+        (length touched.now)) }
+{
+    if index == touched.len() {
+        true
+    } else {
+        number <= touched[index].number
+    }
+}
+
+/// Whether as many of the touches, which ascend, are of words before a number as an index says.
+fn splits(touched: &[Touch], number: u64, index: usize) -> bool
+    requires { IsNonDecreasingBy (λ t. t.number) touched.now }
+    ensures bound { OnTrue result (index ≤ length touched.now) }
+    ensures point { OnTrue result (IsPartitionPoint (λ t. nat_lt t.number number ≡ true)
+        (λ t. nat_lt t.number number ≡ false) touched.now index) }
+{
+    index <= touched.len()
+        && all_before(touched, number, index)
+        && none_before(touched, number, index)
+}
+
+/// How many of the touches, which ascend, are of words before a number. A guess and the next number are tried first.
+fn before_by(touched: &[Touch], number: u64, guess: usize) -> usize
+    requires { IsNonDecreasingBy (λ t. t.number) touched.now }
+    ensures bound { result ≤ length touched.now }
+    ensures point { IsPartitionPoint (λ t. nat_lt t.number number ≡ true)
+        (λ t. nat_lt t.number number ≡ false) touched.now result }
+{
+    let next = guess.saturating_add(1);
+    if splits(touched, number, guess) {
+        guess
+    } else if splits(touched, number, next) {
+        next
+    } else {
+        before(touched, number)
+    }
+}
+
+/// The patches that touch a word. The search begins at a guess of how many touches are of words before it.
+pub fn touching<'t>(
+    patches: &[Patch],
+    touched: &'t [Touch],
+    number: u64,
+    guess: usize,
+) -> &'t [Touch]
     requires index { spec.IsIndex patches.now touched.now }
     requires limit { number < 2 ^ 61 }
     ensures touching { spec.AreTouching patches.now result.now number }
     ensures only { All (λ touch. touch.number ≡ number) result.now }
 {
-    let first = before(touched, number);
-    let end = before(touched, number + 1);
+    let first = before_by(touched, number, guess);
+    let end = before_by(touched, number + 1, first);
     &touched[first..end]
 }
 
@@ -110,8 +172,8 @@ pub fn patched(patches: &[Patch], touching: &[Touch], below: u8, address: u64) -
     found
 }
 
-/// The number of the first word from one on that a patch touches, `WORDS` where there is none.
-pub fn next_touched(touched: &[Touch], from: u64) -> u64
+/// The number of the first word from one on that a patch touches, `WORDS` where there is none. The search begins at a guess of how many touches are of words before it, which becomes their number.
+pub fn next_touched(touched: &[Touch], from: u64, guess: &mut usize) -> u64
     requires rising { IsNonDecreasingBy (λ t. t.number) touched.now }
     requires limit { from ≤ WORDS }
     ensures within { (from ≤ result) × (result ≤ WORDS) }
@@ -119,7 +181,8 @@ pub fn next_touched(touched: &[Touch], from: u64) -> u64
         ≡ false }
     ensures found { result < WORDS → list_any (λ t. t.number == result) touched.now ≡ true }
 {
-    let index = before(touched, from);
+    let index = before_by(touched, from, *guess);
+    *guess = index;
     if index < touched.len() {
         touched[index].number.min(WORDS)
     } else {
