@@ -55,14 +55,14 @@ fn is_of_no_version(object: &Object, name: &[u8], class: Class, symbol: &Symbol)
     ensures { result ≡ (spec.defines object.now name.now class symbol.now && symbol.now.version ==
         VER_NDX_GLOBAL) }
 {
-    defines(object, name, class, symbol) && symbol.version == VER_NDX_GLOBAL
+    symbol.version == VER_NDX_GLOBAL && defines(object, name, class, symbol)
 }
 
 fn is_at_index(object: &Object, name: &[u8], class: Class, index: u16, symbol: &Symbol) -> bool
     ensures { result ≡ (spec.defines object.now name.now class symbol.now && index_of
         symbol.now.version == index) }
 {
-    defines(object, name, class, symbol) && index_of(symbol.version) == index
+    index_of(symbol.version) == index && defines(object, name, class, symbol)
 }
 
 /// Whether a symbol defines the name and, unless hidden ones count too, is not hidden.
