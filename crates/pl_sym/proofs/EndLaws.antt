@@ -77,11 +77,14 @@ unfolding string_size
 sizes_begin strings sizes len none = (len, omega arith, λ block le. none block ∙ sym (ap (position is_zero) (drop_all (BLOCK * block) strings (omega (arith, len, le)))))
 
 pub one_noted : (strings : List ℕ) (sizes : List (Option ℕ)) (block : ℕ) (size : Option ℕ) → AreSizesFrom strings sizes (block + 1) → size ≡ string_size (BLOCK * block) strings → AreSizesFrom strings (set sizes block size) block
-one_noted strings sizes block size are is =
-    (length-set sizes block size ∙ are.0, omega (arith, are.1, length-set sizes block size), λ k le. elim (eqb_tells k block) [
-      | inl same ↦ rw same.1 (get_or-set_same sizes block size None (omega (arith, are.1)) ∙ is)
-      | inr other ↦ get_or-set_other sizes block k size None other.1 ∙ are.2 k (omega (arith, le, other.1))
-    ])
+one_noted strings sizes block size are is = (
+  length-set sizes block size ∙ are.0,
+  omega (arith, are.1, length-set sizes block size),
+  λ k le. elim (eqb_tells k block) [
+    | inl same ↦ rw same.1 (get_or-set_same sizes block size None (omega (arith, are.1)) ∙ is)
+    | inr other ↦ get_or-set_other sizes block k size None other.1 ∙ are.2 k (omega (arith, le, other.1))
+  ],
+)
 
 pub none_replicated : (n k : ℕ) → get_or (replicate {A = Option ℕ} n None) k None ≡ None
 none_replicated n k = elim (leb_tells n k) [
