@@ -1,1 +1,1 @@
-mod NameLaws
+mod EndLaws

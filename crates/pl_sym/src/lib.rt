@@ -6,6 +6,7 @@ pub mod constants;
 mod definers;
 mod fault;
 mod name;
+mod string_ends;
 mod symbol;
 mod table;
 

@@ -45,7 +45,7 @@ impl Model for Name {
 
 /// The first of some bytes, or all of them.
 #[tactic(auto, using(std::proofs::lemmas::List::take_all))]
-fn first(bytes: &[u8], size: usize) -> &[u8]
+pub fn first(bytes: &[u8], size: usize) -> &[u8]
     ensures { result.now ≡ take size bytes.now }
 {
     if size < bytes.len() {
@@ -57,7 +57,7 @@ fn first(bytes: &[u8], size: usize) -> &[u8]
 
 /// The bytes from a place on; past the last one none.
 #[tactic(auto, using(std::proofs::lemmas::List::drop_all))]
-fn rest(bytes: &[u8], start: usize) -> &[u8]
+pub fn rest(bytes: &[u8], start: usize) -> &[u8]
     ensures { result.now ≡ drop start bytes.now }
 {
     if start < bytes.len() {

@@ -15,12 +15,12 @@ loop-index-init c = rw (c.from_vec-symbols.ensures, c.in_ok-with_capacity.ensure
 pub returns-in_err-symbol_at : goal.returns-in_err-symbol_at
 returns-in_err-symbol_at c =
     let p = err_from_is_err_and c.from_residual-in_err-symbol_at.result c.from_residual-in_err-symbol_at.ensures.1 in
-    let exact = subst (λ (ss : List ℕ). Answers spec.is_memory (Err c.in_err-symbol_at.field-0.0) (spec.symbol c.args.table.now ss c.loop-index.index)) c.in_ok-shared.ensures.ok c.in_err-symbol_at.ensures in
+    let exact = subst (λ (ss : List ℕ). Answers spec.is_memory (Err c.in_err-symbol_at.field-0.0) (spec.symbol c.args.table.now ss c.loop-index.index)) c.in_ok-ends.ensures c.in_err-symbol_at.ensures in
     rw (p.1, p.2) (rows_fail spec.is_memory (spec.symbol c.args.table.now c.args.strings.now) _ _ _ _ _ c.loop-index-test.true exact c.loop-index.invariant)
 
 pub loop-index-preserved : goal.loop-index-preserved
 loop-index-preserved c =
-    let exact = subst (λ (ss : List ℕ). Answers spec.is_memory (Ok c.in_ok-symbol_at.field-0) (spec.symbol c.args.table.now ss c.loop-index.index)) c.in_ok-shared.ensures.ok c.in_ok-symbol_at.ensures in
+    let exact = subst (λ (ss : List ℕ). Answers spec.is_memory (Ok c.in_ok-symbol_at.field-0) (spec.symbol c.args.table.now ss c.loop-index.index)) c.in_ok-ends.ensures c.in_ok-symbol_at.ensures in
     rw c.in_ok-push.ensures.ok (rows_more (spec.symbol c.args.table.now c.args.strings.now) _ _ _ _ _ c.loop-index-test.true exact c.loop-index.invariant)
 
 pub returns : goal.returns
