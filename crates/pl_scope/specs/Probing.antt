@@ -1,5 +1,5 @@
 -- A search among the symbols that the hash of a name leads to in a table of one object.
-use Rattle.std.specs.Prelude.{◌≡◌, ℕ, Bool, true, false, not, ◌&&◌, ◌==◌, min, List, [], ◌∷◌, length, Option, Some, None, slice_get, if◌then◌else◌}
+use Rattle.std.specs.Prelude.{◌≡◌, ℕ, Bool, true, false, not, ◌&&◌, ◌==◌, min, List, [], ◌∷◌, length, Option, Some, None, slice_get, IfSome, IsTrue, if◌then◌else◌}
 use Rattle.std.specs.List.{list_any}
 use Rattle.std.specs.Option.{option_map}
 use Rattle.pl_sym.specs.Definers.{is_definer}
@@ -10,7 +10,7 @@ use Rattle.pl_ver.specs.Fields.{index_of}
 use Rattle.pl_ver.specs.declared.constants.TheConstants.{VER_NDX_GLOBAL}
 use Rattle.pl_hash.specs.Hash.{gnu}
 use Rattle.pl_hash.specs.Chain.{IsWellFormed}
-use Rattle.pl_hash.specs.ChainSymbols.{chain_symbols, is_chain_symbol, name_hash}
+use Rattle.pl_hash.specs.ChainSymbols.{chain_symbols, is_chain_symbol, name_hash, rest_from}
 use Rattle.pl_hash.specs.Table.{HashTable}
 use Rattle.pl_elf.specs.Kinds.{is_program}
 use Rattle.pl_object.specs.declared.object.Object.{Object}
@@ -46,13 +46,15 @@ pub record IsTable (o : Object) (t : HashTable) : Type 0 where
   pub symbols : t.symbols ≡ length o.symbols
   pub complete : (i : ℕ) (s : Symbol) → slice_get o.symbols i ≡ Some s → is_definer s Jump false ≡ true → is_chain_symbol t (name_hash t s.name) i ≡ true
 
--- a table of the object, and the hash of the name by which it goes
+abbrev pub led_to : Probe → List ℕ
+led_to p = chain_symbols p.table.now p.hash
+
+-- a table of the object, the hash of the name by which it goes, and the first of the symbols to which that leads
 pub record IsProbe (p : Probe) : Type 0 where
   pub table : IsTable p.object.now p.table.now
   pub hash : p.hash ≡ name_hash p.table.now p.name.now
-
-abbrev pub led_to : Probe → List ℕ
-led_to p = chain_symbols p.table.now p.hash
+  pub given : IfSome p.first (λ index. IsTrue (is_chain_symbol p.table.now p.hash index))
+  pub all : rest_from p.first (led_to p) ≡ led_to p
 
 -- whether a step takes the symbol of an index
 abbrev pub picks : Probe → Pick → ℕ → Bool

@@ -45,6 +45,9 @@ pub struct Probe<'a> {
 
     /// The name's hash by which the table goes.
     pub hash: u32,
+
+    /// The index of the first symbol to which the hash leads.
+    pub first: Option<u32>,
 }
 
 /// Whether a step takes the symbol of an index.
@@ -84,7 +87,7 @@ fn least(probe: &Probe<'_>, pick: Pick<'_>) -> Option<u32>
         (spec.led_to probe.now) }
 {
     let mut least = None;
-    let mut at = first(probe.table, probe.hash);
+    let mut at = probe.first;
     while let Some(index) = at {
         least = with_picked(least, index, picks(probe, pick, index));
         at = next(probe.table, probe.hash, index);
@@ -105,7 +108,7 @@ fn has_another(probe: &Probe<'_>, pick: Pick<'_>, index: u32) -> bool
     ensures { result ≡ spec.another (spec.picks probe.now pick.entry) index
         (spec.led_to probe.now) }
 {
-    let mut at = first(probe.table, probe.hash);
+    let mut at = probe.first;
     while let Some(candidate) = at {
         if is_other_picked(probe, pick, index, candidate) {
             return true;
@@ -201,7 +204,8 @@ pub fn matching_by_table(object: &Object, wanted: &Wanted<'_>) -> Option<u32>
         return None;
     };
     let hash = hash_in(wanted, table);
-    if first(table, hash).is_none() {
+    let start = first(table, hash);
+    if start.is_none() {
         return None;
     }
     let probe = Probe {
@@ -209,6 +213,7 @@ pub fn matching_by_table(object: &Object, wanted: &Wanted<'_>) -> Option<u32>
         table,
         name: wanted.name,
         hash,
+        first: start,
     };
     match wanted.version {
         None => unversioned(&probe),

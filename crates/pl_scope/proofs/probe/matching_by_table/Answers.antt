@@ -13,7 +13,7 @@ pub returns-then-is_none : goal.returns-then-is_none
 returns-then-is_none c =
     let wanted = c.args.wanted.now in
     let t = c.in-Some.table.now in
-    let none : c.first.result ≡ None = search rules in
-    let nothing : rest_from None (chain_symbols t c.hash_in-hash.result) ≡ chain_symbols t c.hash_in-hash.result = rw none at c.first.ensures.rest in
+    let none : c.first-start.result ≡ None = search rules in
+    let nothing : rest_from None (chain_symbols t c.hash_in-hash.result) ≡ chain_symbols t c.hash_in-hash.result = rw none at c.first-start.ensures.rest in
     sym (missed c.args.object.now t wanted.name.now (option_map (λ x. x.now) wanted.version) c.in-Some.ensures.some
     (subst (λ (h : ℕ). rest_from None (chain_symbols t h) ≡ chain_symbols t h) c.hash_in-hash.ensures nothing))
