@@ -1,9 +1,8 @@
 // Acceptance clauses 20 to 22 and 28: how symbols are found. A test is true where the clause refuses the file.
-ghost use Rattle.std.specs.Prelude.{◌≡◌, ◌++◌, ◌<◌, ◌^◌, false, length, map, slice_get, slice_index_or, OnOk, IfOk};
+ghost use Rattle.std.specs.Prelude.{◌≡◌, ◌++◌, false, length, map, slice_get, slice_index_or, IsTrue, OnOk, IfOk};
 ghost use Rattle.std.specs.List.{list_any, range_with_len};
 ghost use Rattle.pl_base.specs.Answers.{Answers};
-ghost use Rattle.pl_hash.specs.ChainSymbols as chains;
-ghost use Rattle.pl_hash.specs.Chain.{IsWellFormed};
+ghost use Rattle.pl_hash.specs.Chain.{IsWellFormed, well_formed};
 ghost use Rattle.pl_object.specs.Finding as finding;
 ghost use Rattle.pl_object.specs.Refusals.{is_memory};
 ghost use Rattle.pl_object.specs.SymbolClauses as spec;
@@ -17,7 +16,7 @@ use pl_dyn::Tag;
 use pl_dyn::constants::{DT_GNU_HASH, DT_HASH};
 use pl_elf::constants::{PAGE, PT_LOAD};
 use pl_elf::{Section, Segment, segment_of_kind};
-use pl_hash::{Table, found, is_whole, name_hash};
+use pl_hash::{SYSV_HEADER_SIZE, Table, WORD_SIZE, found, is_whole, name_hash};
 use pl_sym::constants::STT_GNU_IFUNC;
 use pl_sym::{Class, Symbol, is_definer};
 use pl_ver::Versions;
@@ -120,14 +119,33 @@ fn defines(symbol: &Symbol) -> bool
     is_definer(symbol, Class::Jump, false)
 }
 
-/// The hashes of the symbols' names that a table goes by.
+/// Whether it is a System V table whose bytes have room for one bucket alone.
+#[tactic(auto, unfolding(crate::specs::Finding::has_one_bucket))]
+fn has_one_bucket(table: &Table) -> bool
+    ensures { result ≡ finding.has_one_bucket table.now }
+{
+    !table.is_gnu() && table.size() < SYSV_HEADER_SIZE + WORD_SIZE * (2 + table.symbols() as usize)
+}
+
+/// The hash by which a table is asked for a symbol. No name is read of a symbol that is no definer, nor where every hash leads to the same symbols.
+#[tactic(auto, unfolding(crate::specs::Finding::asked_hash))]
+fn asked_hash(table: &Table, symbol: &Symbol) -> u32
+    ensures { result ≡ finding.asked_hash table.now symbol.now }
+{
+    if !defines(symbol) || has_one_bucket(table) {
+        0
+    } else {
+        name_hash(table, symbol.name.as_slice())
+    }
+}
+
+/// The hashes by which a table is asked for the symbols.
 fn hashes(alloc: Global, table: &Table, symbols: &[Symbol]) -> Result<Vec<u32>, AllocError>
-    ensures { IfOk result (λ v. v.items ≡ map (λ s. chains.name_hash table.now s.name)
-        symbols.now) }
+    ensures { IfOk result (λ v. v.items ≡ map (finding.asked_hash table.now) symbols.now) }
 {
     symbols
         .iter()
-        .map(|symbol| name_hash(table, symbol.name.as_slice()))
+        .map(|symbol| asked_hash(table, symbol))
         .collect(alloc)
 }
 
@@ -152,7 +170,8 @@ fn any_unfound(found: &[bool], symbols: &[Symbol]) -> bool
 
 /// Whether a definer's own hash does not lead to it.
 fn misses_one(alloc: Global, symbols: &[Symbol], table: &Table) -> Result<bool, AllocError>
-    requires { IsWellFormed table.now }
+    requires formed { IsWellFormed table.now }
+    requires whole { IsTrue (well_formed table.now) }
     ensures { IfOk result (λ b. b ≡ spec.misses_one symbols.now table.now) }
 {
     let hashes = hashes(alloc, table, symbols)?;
@@ -223,7 +242,6 @@ pub fn check_symbols(
     versions: &Option<Versions>,
     symbols: &[Symbol],
 ) -> Result<(), Refusal>
-    requires { length symbols.now < 2 ^ 32 }
     ensures { Answers is_memory result (spec.check_symbols program segments.now tables.now
         versions.now symbols.now) }
 {

@@ -1,5 +1,5 @@
 // Acceptance clause 22: two definers of one name and version.
-ghost use Rattle.std.specs.Prelude.{◌≡◌, ◌<◌, ◌^◌, filter, length, map, slice_get, IfOk};
+ghost use Rattle.std.specs.Prelude.{◌≡◌, filter, length, map, slice_get, IfOk};
 ghost use Rattle.std.specs.List.{range_with_len};
 ghost use Rattle.std.specs.Option.{option_map};
 ghost use Rattle.std.specs.List.Sorted.{IsNonDecreasingBy, IsPermutation};
@@ -14,36 +14,52 @@ use pl_ver::constants::VER_NDX_GLOBAL;
 use pl_ver::{Versions, index_of, version_of};
 use std::alloc::{AllocError, Global};
 
-/// The index of a symbol with the hash of its name.
+/// How many bytes at each end of a long name its key is made of.
+pub const KEY_END: usize = 64;
+
+/// The index of a symbol with the key of its name.
 #[derive(Clone, Copy, Debug)]
 pub struct Entry {
-    pub hash: u32,
-    pub index: u32,
+    pub key: u64,
+    pub index: usize,
 }
 
-fn hash_of(symbols: &[Symbol], index: usize) -> u32
-    ensures { result ≡ spec.hash_of (slice_get symbols.now index) }
+/// A number for a name by which two different names are told apart almost always. Of a long name only its length and both of its ends are read.
+fn name_key(name: &[u8]) -> u64
+    ensures { result ≡ spec.name_key name.now }
+{
+    let size = name.len();
+    if size <= 2 * KEY_END {
+        u64::from(gnu_hash(name))
+    } else {
+        let start = gnu_hash(&name[..KEY_END]);
+        let end = gnu_hash(&name[size - KEY_END..]);
+        u64::from(start) + u64::from(end) + size as u64
+    }
+}
+
+fn key_of(symbols: &[Symbol], index: usize) -> u64
+    ensures { result ≡ spec.key_of (slice_get symbols.now index) }
 {
     match symbols.get(index) {
         None => 0,
-        Some(symbol) => gnu_hash(symbol.name.as_slice()),
+        Some(symbol) => name_key(symbol.name.as_slice()),
     }
 }
 
 fn entry_of(symbols: &[Symbol], index: usize) -> Entry
-    requires { index < 2 ^ 32 }
     ensures { result ≡ spec.entry_of symbols.now index }
 {
     Entry {
-        hash: hash_of(symbols, index),
-        index: index as u32,
+        key: key_of(symbols, index),
+        index,
     }
 }
 
-fn is_definer_entry(program: bool, symbols: &[Symbol], entry: &Entry) -> bool
-    ensures { result ≡ spec.is_definer_entry program symbols.now entry.now }
+fn defines_at(program: bool, symbols: &[Symbol], index: usize) -> bool
+    ensures { result ≡ spec.defines_by program (slice_get symbols.now index) }
 {
-    match symbols.get(entry.index as usize) {
+    match symbols.get(index) {
         None => false,
         Some(symbol) => is_definer(symbol, Class::Other, program),
     }
@@ -51,23 +67,23 @@ fn is_definer_entry(program: bool, symbols: &[Symbol], entry: &Entry) -> bool
 
 /// The definers.
 fn entries(alloc: Global, program: bool, symbols: &[Symbol]) -> Result<Vec<Entry>, AllocError>
-    requires { length symbols.now < 2 ^ 32 }
-    ensures { IfOk result (λ v. v.items ≡ filter (spec.is_definer_entry program symbols.now)
-        (map (spec.entry_of symbols.now) (range_with_len 0 (length symbols.now)))) }
+    ensures { IfOk result (λ v. v.items ≡ map (spec.entry_of symbols.now)
+        (filter (λ index. spec.defines_by program (slice_get symbols.now index))
+        (range_with_len 0 (length symbols.now)))) }
 {
     (0..symbols.len())
+        .filter(|index| defines_at(program, symbols, *index))
         .map(|index| entry_of(symbols, index))
-        .filter(|entry| is_definer_entry(program, symbols, entry))
         .collect(alloc)
 }
 
-/// Puts entries into the order of their hashes.
+/// Puts entries into the order of their keys.
 fn sort_entries(entries: &mut [Entry])
     ensures same { IsPermutation entries.old entries.new }
     ensures len { length entries.new ≡ length entries.old }
-    ensures rising { IsNonDecreasingBy spec.key entries.new }
+    ensures rising { IsNonDecreasingBy spec.entry_key entries.new }
 {
-    entries.sort_unstable_by_key(|entry| entry.hash);
+    entries.sort_unstable_by_key(|entry| entry.key);
 }
 
 pub fn is_plain(symbol: &Symbol) -> bool
@@ -125,16 +141,16 @@ fn are_twins(
 ) -> bool
     ensures { result ≡ spec.are_twins versions.now program symbols.now entry.now other.now }
 {
-    match symbols.get(entry.index as usize) {
+    match symbols.get(entry.index) {
         None => false,
-        Some(symbol) => match symbols.get(other.index as usize) {
+        Some(symbol) => match symbols.get(other.index) {
             None => false,
-            Some(twin) => entry.hash == other.hash && is_twin(versions, program, symbol, twin),
+            Some(twin) => entry.key == other.key && is_twin(versions, program, symbol, twin),
         },
     }
 }
 
-/// Whether an entry has a twin among those that follow it under its hash.
+/// Whether an entry has a twin among those that follow it under its key.
 fn meets_run(
     versions: &Option<Versions>,
     program: bool,
@@ -142,11 +158,11 @@ fn meets_run(
     entry: &Entry,
     others: &[Entry],
 ) -> bool
-    ensures { result ≡ runs.meets_run (spec.are_twins versions.now program symbols.now) spec.key
+    ensures { result ≡ runs.meets_run (spec.are_twins versions.now program symbols.now) spec.entry_key
         entry.now others.now }
 {
     for other in others {
-        if other.hash != entry.hash {
+        if other.key != entry.key {
             return false;
         }
         if are_twins(versions, program, symbols, entry, other) {
@@ -156,14 +172,14 @@ fn meets_run(
     false
 }
 
-/// Whether two of the entries under one hash are twins.
+/// Whether two of the entries under one key are twins.
 fn any_run(
     versions: &Option<Versions>,
     program: bool,
     symbols: &[Symbol],
     entries: &[Entry],
 ) -> bool
-    ensures { result ≡ runs.any_run (spec.are_twins versions.now program symbols.now) spec.key
+    ensures { result ≡ runs.any_run (spec.are_twins versions.now program symbols.now) spec.entry_key
         entries.now }
 {
     for index in 0..entries.len() {
@@ -180,15 +196,15 @@ fn any_run(
     false
 }
 
-/// The most pairs of definers of one hash, times one more than the versions of the object, for which each two are compared; where there are more, a map finds twins. The answer is the same.
+/// The most pairs of definers of one key, times one more than the versions of the object, for which each two are compared; where there are more, a map finds twins. The answer is the same.
 const FEW: usize = 0x1_0000;
 
-/// Whether few enough of the entries have one hash, and there are few enough versions, that each two of one hash may be compared.
+/// Whether few enough of the entries have one key, and there are few enough versions, that each two of one key may be compared.
 fn are_few(versions: &Option<Versions>, entries: &[Entry]) -> bool {
     let mut pairs: usize = 0;
     let mut run: usize = 0;
     for index in 1..entries.len() {
-        run = if entries[index].hash == entries[index - 1].hash {
+        run = if entries[index].key == entries[index - 1].key {
             run.saturating_add(1)
         } else {
             0
@@ -202,14 +218,13 @@ fn are_few(versions: &Option<Versions>, entries: &[Entry]) -> bool {
     pairs.saturating_mul(rows.saturating_add(1)) <= FEW
 }
 
-/// Whether two symbols are definers of one name and version. The definers are sorted by the hashes of their names once, and those of one hash compared, or, where these are many, found by their names in a map: the time grows as `n log n`.
+/// Whether two symbols are definers of one name and version. The definers are sorted by keys of their names once, and those of one key compared, or, where these are many, found by their names in a map: the time grows as `n log n`.
 pub fn duplicate_definer(
     alloc: Global,
     versions: &Option<Versions>,
     program: bool,
     symbols: &[Symbol],
 ) -> Result<bool, AllocError>
-    requires { length symbols.now < 2 ^ 32 }
     ensures { IfOk result (λ b. b ≡ clauses.duplicate_definer versions.now program symbols.now) }
 {
     let mut sorted = entries(alloc, program, symbols)?;
