@@ -6,7 +6,7 @@ use Rattle.std.proofs.lemmas.Slice.Zip.{AllZip-long}
 use Rattle.pl_cone.specs.declared.taken.Taken.{Taken}
 use Rattle.pl_rewrite.specs.Outcomes.{all_made, made_by, made_from, with_made}
 use Rattle.pl_journal.specs.declared.change.Change.{Change}
-use Rattle.pl_rewrite.specs.declared.finishing.MadeFiles.{MadeFiles}
+use Rattle.pl_rewrite.specs.declared.rewriting.MadeFiles.{MadeFiles}
 use Rattle.pl_rewrite.specs.declared.outcomes.RowOutcome.{RowOutcome}
 use Rattle.pl_rewrite.specs.declared.report.ReportRow.{ReportRow}
 

@@ -40,7 +40,7 @@ use Rattle.pl_rewrite.specs.Outcomes.{IsMadeAt, IsOutcome, KeepsFile, MayBe, kep
 use Rattle.pl_rewrite.specs.Outcomes as spec
 use Rattle.pl_rewrite.specs.Reports as reports
 use Rattle.pl_rewrite.specs.Rows.{IsFirmAt, IsWalkRow, firm_by, firms_of, is_library_row, number_at, of_firm}
-use Rattle.pl_rewrite.specs.declared.finishing.Made.{Made}
+use Rattle.pl_rewrite.specs.declared.rewriting.Made.{Made}
 use Rattle.pl_rewrite.specs.declared.numbers.Numbered.{Numbered}
 use Rattle.pl_rewrite.specs.declared.outcomes.NewLibrary.{NewLibrary}
 use Rattle.pl_rewrite.specs.declared.outcomes.NewProgram.{NewProgram}

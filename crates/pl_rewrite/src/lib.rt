@@ -6,10 +6,8 @@
 mod apart;
 mod conflict;
 mod copies;
-mod finishing;
 mod laws;
 mod library;
-mod lists;
 mod numbers;
 mod outcomes;
 mod own_words;
