@@ -15,7 +15,6 @@ mod scopes;
 mod skip;
 mod table;
 mod taken;
-mod values;
 mod walking;
 
 pub use calls::{Cone, cone_of, prelinkable, row_of};
@@ -23,9 +22,8 @@ pub use currency::LAST_STAMP;
 pub use laws::{flags_give_one_word, rule_is_one};
 pub use linking::{Link, library_link};
 pub use planning::{Asked, RowPlan, plan_of};
-pub use scopes::WalkScope;
+pub use scopes::{WalkLinking, WalkScope, modules_of, sought};
 pub use skip::{ConeFault, PlanningFault, Skip};
 pub use table::{RunTable, index_of};
 pub use taken::{Taken, take_file};
-pub use values::{WalkLinking, modules_of, sought};
 pub use walking::{FolderWalks, walks_of};

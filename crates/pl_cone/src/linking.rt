@@ -15,7 +15,7 @@ ghost use Rattle.pl_cone.specs.Skips.{skip_is_memory};
 ghost use Rattle.pl_cone.specs.Table as table;
 ghost use Rattle.pl_cone.specs.Taken.{WereTaken};
 
-use crate::values::{WalkLinking, modules_of, sought};
+use crate::scopes::{WalkLinking, modules_of, sought};
 use crate::{Skip, Taken, WalkScope};
 use pl_base::{Rows, Text};
 use pl_elf::constants::{
@@ -32,6 +32,7 @@ use std::alloc::Global;
 pub struct Link {
     /// For each of them, in their order, the symbol that it finds among the members of the walk, if it finds one.
     pub found: Rows<Option<Found>>,
+
     /// Of a library the indexes, ascending, of those that are not known to give the same in every walk which holds the library. A program has none.
     pub remaining: Rows<u32>,
 }
@@ -61,6 +62,7 @@ pub struct WalkedFiles<'t> {
 pub struct Linked {
     /// For each file, in their order, what its own relocations find; of no relocations where it may not be prelinked.
     pub links: Vec<Link>,
+
     /// For each file the first cause why it may not be prelinked, if there is one.
     pub causes: Vec<Option<Skip>>,
 }

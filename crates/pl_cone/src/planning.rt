@@ -21,12 +21,16 @@ use std::alloc::Global;
 pub struct Asked<'a> {
     /// The rows of the cache.
     pub rows: &'a [Slot],
+
     /// The stamp of the last run that gave one, by the cache.
     pub last: u32,
+
     /// The addresses from which slots are given.
     pub region: Range,
+
     /// Whether libraries may share addresses that the walk of no name holds together.
     pub share: bool,
+
     /// When the run is, in seconds since 1970.
     pub moment: u32,
 }
@@ -36,12 +40,16 @@ pub struct Asked<'a> {
 pub struct RowPlan {
     /// The slots of the libraries that may be prelinked, in the order of the files.
     pub slots: Rows<Slot>,
+
     /// Where each file's slot starts, 0 where it has none.
     pub places: Rows<u64>,
+
     /// Whether each may be prelinked and is not current.
     pub stale: Rows<bool>,
+
     /// The stamp of each library after the run; 0 for every other file.
     pub stamps: Rows<u32>,
+
     /// The stamp that stale libraries get; the last one so far where no file is stale.
     pub stamp: u32,
 }
@@ -51,6 +59,7 @@ pub struct RowPlan {
 struct Wanting {
     /// What they want, in the order of their rows.
     wants: Rows<Want>,
+
     /// For each row the position of its want, if it has one.
     positions: Vec<Option<u32>>,
 }
@@ -177,6 +186,7 @@ fn places(alloc: Global, slots: &[Slot], positions: &[Option<u32>]) -> Result<Ro
 pub struct PlannedSlots {
     /// In the order of their rows.
     pub slots: Rows<Slot>,
+
     /// For each row where its slot starts, 0 where it has none.
     pub places: Rows<u64>,
 }

@@ -18,7 +18,7 @@ use Rattle.pl_rewrite.specs.Reports.{report, row_of, state_after}
 use Rattle.pl_rewrite.specs.Rewriting.{rewrite, rewritten, rewritten_with, run_made}
 use Rattle.pl_rewrite.specs.declared.rewriting.MadeFiles.{MadeFiles}
 use Rattle.pl_rewrite.specs.declared.rewriting.Made.{Made}
-use Rattle.pl_rewrite.specs.declared.report.ReportRow.{ReportRow}
+use Rattle.pl_rewrite.specs.declared.rewriting.ReportRow.{ReportRow}
 
 -- ---- what a plan says of its names
 

@@ -46,8 +46,8 @@ use Rattle.pl_rewrite.specs.declared.outcomes.NewLibrary.{NewLibrary}
 use Rattle.pl_rewrite.specs.declared.outcomes.NewProgram.{NewProgram}
 use Rattle.pl_rewrite.specs.declared.outcomes.RowOutcome.{RowOutcome}
 use Rattle.pl_rewrite.specs.declared.outcomes.RowOutcome.TheVariants as outcomes
-use Rattle.pl_rewrite.specs.declared.report.RowState.{RowState}
-use Rattle.pl_rewrite.specs.declared.report.RowState.TheVariants as states
+use Rattle.pl_rewrite.specs.declared.rewriting.RowState.{RowState}
+use Rattle.pl_rewrite.specs.declared.rewriting.RowState.TheVariants as states
 use Rattle.pl_rewrite.proofs.CandidateRowLaws.{table_with, walk_row}
 use Rattle.pl_rewrite.proofs.FirmRowLaws.{IsRowOf, row_of}
 use Rattle.pl_rewrite.proofs.LibraryAtLaws.{object_known}

@@ -10,7 +10,6 @@ ghost use Rattle.pl_rewrite.specs.Rewriting as spec;
 
 use crate::library::storable_library;
 use crate::outcomes::{NewLibrary, RowOutcome, outcomes, too_large};
-use crate::{Report, ReportRow, RowState};
 use pl_base::{Rows, Text};
 use pl_cache::Cache;
 use pl_cone::{Asked, PlanningFault, RowPlan, RunTable, Skip, Taken, plan_of};
@@ -18,6 +17,39 @@ use pl_form::Version;
 use pl_io::NoMemory;
 use pl_journal::Change;
 use std::alloc::{AllocError, Global};
+
+/// What a run that prelinks everything makes of each name, in their order.
+#[derive(Drop)]
+pub struct Report {
+    pub rows: Rows<ReportRow>,
+}
+
+/// What it makes of one name.
+#[derive(Drop)]
+pub struct ReportRow {
+    pub name: Text,
+    pub state: RowState,
+}
+
+/// The state of a name after the run.
+#[derive(Drop)]
+pub enum RowState {
+    /// A prelinked library with its slot and its stamp; `current` where it stays as it was.
+    Library {
+        current: bool,
+        slot: u64,
+        stamp: u32,
+    },
+
+    /// A prelinked program with the number of its conflict rows; `current` where it stays as it was.
+    Program {
+        current: bool,
+        conflicts: u64,
+    },
+
+    /// Not prelinked, and the first cause why. `NoMemory` does not come here.
+    Skipped(Skip),
+}
 
 /// What a run changes, what it leaves in the cache, and what it reports.
 #[derive(Drop)]

@@ -12,7 +12,7 @@ use Rattle.pl_cone.specs.Links.{meaning_in, objects_of, rows_have_in}
 use Rattle.pl_cone.proofs.ProgramLinkLaws.{own_stops}
 use Rattle.pl_cone.proofs.StepLaws.{zip_more}
 use Rattle.pl_cone.proofs.ValueLaws.{row_linked, row_stops, all_rows}
-use Rattle.pl_cone.proofs.values.WalkLinking.first_found.Goals as goal
+use Rattle.pl_cone.proofs.scopes.WalkLinking.first_found.Goals as goal
 
 pub valued-requires-clause-reference : goal.valued-requires-clause-reference
 valued-requires-clause-reference c =

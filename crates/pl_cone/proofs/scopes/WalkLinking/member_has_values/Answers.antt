@@ -9,10 +9,10 @@ use Rattle.pl_value.specs.declared.fault.LinkFault.{LinkFault}
 use Rattle.pl_scope.specs.Scope.{IsSymbol}
 use Rattle.pl_scope.proofs.MemberLaws.{all_at}
 use Rattle.pl_cone.specs.Links.{meaning_in, objects_of, reloc_has_in, value_at}
-use Rattle.pl_cone.specs.declared.values.WalkLinking.{WalkLinking}
+use Rattle.pl_cone.specs.declared.scopes.WalkLinking.{WalkLinking}
 use Rattle.pl_cone.proofs.RemainingLaws.{numbers_decide}
-use Rattle.pl_cone.proofs.values.WalkLinking.member_has_values.Goals.{in-Some+in_ok-valued, in_default}
-use Rattle.pl_cone.proofs.values.WalkLinking.member_has_values.Goals as goal
+use Rattle.pl_cone.proofs.scopes.WalkLinking.member_has_values.Goals.{in-Some+in_ok-valued, in_default}
+use Rattle.pl_cone.proofs.scopes.WalkLinking.member_has_values.Goals as goal
 
 abbrev step : WalkLinking → ℕ → List Reloc → Unit {0} → ℕ → Result (Unit {0}) LinkFault
 step linking member relocs u i = value_at linking member relocs i

@@ -4,7 +4,7 @@ use Rattle.pl_cone.specs.Candidates.{blocks}
 use Rattle.pl_cone.proofs.MemberLaws.{blocks_are, few_blocks}
 use Rattle.pl_scope.specs.declared.member.Member.{Member}
 use Rattle.pl_tls.specs.Layout.{offsets}
-use Rattle.pl_cone.proofs.values.modules_of.Goals as goal
+use Rattle.pl_cone.proofs.scopes.modules_of.Goals as goal
 
 pub offsets-requires : goal.offsets-requires
 offsets-requires c =

@@ -3,7 +3,7 @@ use Rattle.std.proofs.lemmas.Result.{err_from_is_err_and}
 use Rattle.pl_base.specs.Answers.{because}
 use Rattle.pl_cone.specs.Candidates.{of_link}
 use Rattle.pl_cone.proofs.ProgramLinkLaws.{others_are, others_stop, own_refuses}
-use Rattle.pl_cone.proofs.values.WalkLinking.linked.Goals as goal
+use Rattle.pl_cone.proofs.scopes.WalkLinking.linked.Goals as goal
 
 pub first_found-requires-clause-linking : goal.first_found-requires-clause-linking
 first_found-requires-clause-linking c = c.requires.linking.is

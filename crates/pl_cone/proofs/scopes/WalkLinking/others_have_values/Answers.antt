@@ -6,7 +6,7 @@ use Rattle.pl_value.proofs.LinkableLaws.{all_symbols}
 use Rattle.pl_cone.specs.Links.{TellsOf, meaning_in, objects_of}
 use Rattle.pl_cone.specs.declared.linking.Link.{Link}
 use Rattle.pl_cone.proofs.ValueLaws.{member_past, member_stops, all_members}
-use Rattle.pl_cone.proofs.values.WalkLinking.others_have_values.Goals as goal
+use Rattle.pl_cone.proofs.scopes.WalkLinking.others_have_values.Goals as goal
 
 pub member_has_values-requires-clause-references : goal.member_has_values-requires-clause-references
 member_has_values-requires-clause-references c =

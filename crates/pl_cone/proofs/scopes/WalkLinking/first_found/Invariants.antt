@@ -4,7 +4,7 @@ use Rattle.pl_value.specs.Definers.{IsSought}
 use Rattle.pl_value.specs.Meanings.{row}
 use Rattle.pl_value.specs.Values.{reference}
 use Rattle.pl_cone.specs.Links.{objects_of, rows_have_in}
-use Rattle.pl_cone.proofs.values.WalkLinking.first_found.Given as goal
+use Rattle.pl_cone.proofs.scopes.WalkLinking.first_found.Given as goal
 
 abbrev pub invariant-loop-reloc : goal.invariant-loop-reloc
 invariant-loop-reloc l = record {
