@@ -52,7 +52,7 @@ use Rattle.pl_object.specs.declared.object.Object.{Object}
 use Rattle.pl_cone.specs.Faulted.{of_cone, of_plan}
 use Rattle.pl_cone.specs.Plans.{want_of}
 use Rattle.pl_cone.specs.declared.planning.Asked.{Asked}
-use Rattle.pl_cone.specs.declared.fault.PlanningFault.{PlanningFault}
+use Rattle.pl_cone.specs.declared.skip.PlanningFault.{PlanningFault}
 use Rattle.pl_cone.specs.Plans.{RunPlan}
 use Rattle.pl_rewrite.specs.Rewriting.{rewrite, rewritten}
 use Rattle.pl_rewrite.specs.declared.rewriting.Rewritten.{Rewritten}

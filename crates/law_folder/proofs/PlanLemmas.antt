@@ -28,7 +28,7 @@ use Rattle.pl_rewrite.specs.Plans.{RunPlan}
 use Rattle.pl_rewrite.specs.Changes.{change, changes, is_file, next, next_cache, put}
 use Rattle.pl_rewrite.specs.Laws.{AreNames}
 use Rattle.pl_rewrite.specs.Reports.{report}
-use Rattle.pl_rewrite.specs.declared.report.Report.{Report}
+use Rattle.pl_rewrite.specs.declared.rewriting.Report.{Report}
 use Rattle.pl_rewrite.specs.Rewriting.{rewrite, rewritten}
 use Rattle.pl_rewrite.specs.declared.rewriting.Rewritten.{Rewritten}
 use Rattle.pl_batch.specs.All.{all_changes, all_made, all_reported, asked_of, made_of_folder, made_of, made_with_cache, of_planning, put_cache, spelled, with_cache}

@@ -42,9 +42,9 @@ use Rattle.pl_object.specs.declared.refusal.Refusal.TheVariants as refusals
 use Rattle.pl_rewrite.specs.Plans.{RunPlan}
 use Rattle.pl_rewrite.specs.Changes.{next}
 use Rattle.pl_rewrite.specs.Reports.{marked_at, report, row_of, state_after, state_by, state_of}
-use Rattle.pl_rewrite.specs.declared.report.Report.{Report}
-use Rattle.pl_rewrite.specs.declared.report.RowState.{RowState}
-use Rattle.pl_rewrite.specs.declared.report.RowState.TheVariants as states
+use Rattle.pl_rewrite.specs.declared.rewriting.Report.{Report}
+use Rattle.pl_rewrite.specs.declared.rewriting.RowState.{RowState}
+use Rattle.pl_rewrite.specs.declared.rewriting.RowState.TheVariants as states
 use Rattle.pl_rewrite.proofs.FormLaws.{original_is}
 use Rattle.pl_scope.specs.Members.{names}
 use Rattle.pl_scope.specs.Scope as scope

@@ -11,10 +11,10 @@ use Rattle.pl_rewrite.specs.Skip.TheVariants.{Form}
 use Rattle.pl_elf.specs.declared.range.Range.{Range}
 use Rattle.pl_rewrite.specs.Plans.{is_candidate}
 use Rattle.pl_rewrite.specs.Plans.{RunPlan}
-use Rattle.pl_rewrite.specs.declared.report.Report.{Report}
-use Rattle.pl_rewrite.specs.declared.report.ReportRow.{ReportRow}
-use Rattle.pl_rewrite.specs.declared.report.RowState.{RowState}
-use Rattle.pl_rewrite.specs.declared.report.RowState.TheVariants.{Library, Program, Skipped}
+use Rattle.pl_rewrite.specs.declared.rewriting.Report.{Report}
+use Rattle.pl_rewrite.specs.declared.rewriting.ReportRow.{ReportRow}
+use Rattle.pl_rewrite.specs.declared.rewriting.RowState.{RowState}
+use Rattle.pl_rewrite.specs.declared.rewriting.RowState.TheVariants.{Library, Program, Skipped}
 use Rattle.law_sound.specs.Rule as sound
 use Rattle.law_folder.specs.Candidates.{HasPlan, IsTooLong}
 use Rattle.law_folder.specs.Causes.{IsAsked}

@@ -27,7 +27,7 @@ use Rattle.pl_rewrite.specs.Rewriting.{rewrite}
 use Rattle.pl_rewrite.specs.declared.rewriting.Rewritten.{Rewritten}
 use Rattle.pl_slots.specs.declared.slot.Slot.{Slot}
 use Rattle.law_sound.specs.Rule as sound
-use Rattle.pl_rewrite.specs.declared.report.Report.{Report}
+use Rattle.pl_rewrite.specs.declared.rewriting.Report.{Report}
 use Rattle.pl_batch.specs.All.{Reports, all_changes, all_made, all_reported, asked_of, made_of_folder, made_of, made_with_cache, of_planning, spelled}
 use Rattle.pl_change.specs.Answers.{Finds, BatchMeansAlone}
 use Rattle.pl_batch.specs.All.{of_plan}

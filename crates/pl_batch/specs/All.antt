@@ -13,7 +13,7 @@ use Rattle.pl_rewrite.specs.Asked.{Asked}
 use Rattle.pl_rewrite.specs.PlanningFault.{PlanningFault}
 use Rattle.pl_rewrite.specs.PlanningFault.TheVariants as plan
 use Rattle.pl_rewrite.specs.Rewriting.{rewrite}
-use Rattle.pl_rewrite.specs.declared.report.Report.{Report}
+use Rattle.pl_rewrite.specs.declared.rewriting.Report.{Report}
 use Rattle.pl_rewrite.specs.declared.rewriting.Rewritten.{Rewritten}
 use Rattle.law_sound.specs.Rule as sound
 use Rattle.pl_change.specs.Commands.{IsBefore}

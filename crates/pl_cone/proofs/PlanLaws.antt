@@ -24,7 +24,7 @@ use Rattle.pl_cone.specs.Table.{IsPlan, IsRunTable, is_candidate_row, names_wher
 use Rattle.pl_cone.specs.Taken as files
 use Rattle.pl_cone.specs.Taken.{files_in, is_library_entry, object_by, object_of}
 use Rattle.pl_cone.specs.declared.planning.Asked.{Asked}
-use Rattle.pl_cone.specs.declared.fault.PlanningFault.{PlanningFault}
+use Rattle.pl_cone.specs.declared.skip.PlanningFault.{PlanningFault}
 use Rattle.pl_cone.specs.declared.skip.ConeFault.{ConeFault}
 use Rattle.pl_cone.specs.declared.skip.ConeFault.TheVariants as cone
 use Rattle.pl_cone.specs.declared.skip.Skip.{Skip}

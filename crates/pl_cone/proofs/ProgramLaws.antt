@@ -19,7 +19,7 @@ use Rattle.pl_value.proofs.CollectingLaws.{rows_more}
 use Rattle.pl_cone.specs.Candidates.{blocks, check_links, of_link, resolved, zeros}
 use Rattle.pl_cone.specs.Links.{first_rows, others_have, rows_have_in}
 use Rattle.pl_cone.specs.Skips.{of_tls}
-use Rattle.pl_cone.specs.declared.values.WalkLinking.{WalkLinking}
+use Rattle.pl_cone.specs.declared.scopes.WalkLinking.{WalkLinking}
 use Rattle.pl_cone.proofs.ValueLaws.{each_has, have_more, have_stops}
 
 -- ---- the first member, and the others

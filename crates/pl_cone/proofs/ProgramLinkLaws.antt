@@ -12,7 +12,7 @@ use Rattle.pl_cone.specs.Candidates.{blocks, check_links, of_link}
 use Rattle.pl_cone.specs.Links.{FindsOwn, IsLinkingAtZero, LinksProgram, first_rows, others_have, rows_have_in}
 use Rattle.pl_cone.specs.Skips.{skip_is_memory, of_tls}
 use Rattle.pl_cone.specs.declared.skip.Skip.{Skip}
-use Rattle.pl_cone.specs.declared.values.WalkLinking.{WalkLinking}
+use Rattle.pl_cone.specs.declared.scopes.WalkLinking.{WalkLinking}
 use Rattle.pl_cone.proofs.ProgramLaws.{first_refuses, linked_stops, others_decide}
 
 -- ---- refusals that are no want of memory

@@ -35,7 +35,7 @@ use Rattle.pl_cone.specs.declared.linking.Link.{Link}
 use Rattle.pl_cone.specs.declared.linking.WalkedFiles as walked
 use Rattle.pl_cone.specs.declared.skip.Skip.TheVariants as skips
 use Rattle.pl_cone.specs.declared.taken.Taken.{Taken}
-use Rattle.pl_cone.specs.declared.values.WalkLinking.{WalkLinking}
+use Rattle.pl_cone.specs.declared.scopes.WalkLinking.{WalkLinking}
 use Rattle.pl_cone.proofs.OneWordLaws.{one_word}
 use Rattle.pl_cone.proofs.FolderLaws.{member_has, object_at}
 use Rattle.pl_cone.proofs.MembersLaws.{HasMember, has_member_at}

@@ -7,9 +7,9 @@ use Rattle.pl_cone.specs.Plans.{start_of, want_of}
 use Rattle.pl_cone.specs.Table.{IsRunTableOfSome, is_candidate_row, rows_of, walk_of}
 use Rattle.pl_cone.specs.Taken.{object_by}
 use Rattle.pl_cone.specs.declared.planning.Asked.{Asked}
-use Rattle.pl_cone.specs.declared.fault.PlanningFault.{PlanningFault}
-use Rattle.pl_cone.specs.declared.slots.PlannedSlots.{PlannedSlots}
-use Rattle.pl_cone.specs.declared.slots.Wanting.{Wanting}
+use Rattle.pl_cone.specs.declared.skip.PlanningFault.{PlanningFault}
+use Rattle.pl_cone.specs.declared.planning.PlannedSlots.{PlannedSlots}
+use Rattle.pl_cone.specs.declared.planning.Wanting.{Wanting}
 use Rattle.pl_cone.specs.declared.table.RunTable.{RunTable}
 use Rattle.pl_cone.specs.declared.taken.Taken.{Taken}
 use Rattle.pl_io.specs.declared.no_memory.NoMemory.{NoMemory}

@@ -20,6 +20,7 @@ use std::alloc::Global;
 pub struct Cone {
     /// The names that may be prelinked and are not current, in the order of the files.
     pub stale: Rows<Text>,
+
     /// The stamp that they get; the last one so far where there are none.
     pub stamp: u32,
 }

@@ -7,29 +7,23 @@
 
 mod calls;
 mod currency;
-mod fault;
 mod laws;
 mod linking;
 mod needs;
-mod one_word;
 mod planning;
 mod scopes;
 mod skip;
-mod slots;
 mod table;
 mod taken;
-mod values;
 mod walking;
 
 pub use calls::{Cone, cone_of, prelinkable, row_of};
 pub use currency::LAST_STAMP;
-pub use fault::PlanningFault;
 pub use laws::{flags_give_one_word, rule_is_one};
 pub use linking::{Link, library_link};
 pub use planning::{Asked, RowPlan, plan_of};
-pub use scopes::WalkScope;
-pub use skip::{ConeFault, Skip};
+pub use scopes::{WalkLinking, WalkScope, modules_of, sought};
+pub use skip::{ConeFault, PlanningFault, Skip};
 pub use table::{RunTable, index_of};
 pub use taken::{Taken, take_file};
-pub use values::{WalkLinking, modules_of, sought};
 pub use walking::{FolderWalks, walks_of};

@@ -1,19 +1,29 @@
-// Which names may be prelinked, and what their relocations find.
-ghost use Rattle.std.specs.Prelude.{◌≡◌, ◌<◌, [], IfOk, OnOk, length};
+// Which names may be prelinked, what their relocations find, and which of a library's give the same in every walk.
+ghost use Rattle.std.specs.Prelude.{◌≡◌, ◌<◌, [], Some, true, IfOk, OnOk, length};
+ghost use Rattle.std.specs.Bool.{OnTrue};
 ghost use Rattle.pl_base.specs.Answers.{Answers};
+ghost use Rattle.pl_scope.specs.Finds.{finds};
+ghost use Rattle.pl_scope.specs.Scope.{objects, IsSymbol};
+ghost use Rattle.pl_value.specs.Definers.{IsSought};
+ghost use Rattle.pl_value.specs.Values as value;
 ghost use Rattle.pl_cone.specs.Candidates as candidates;
 ghost use Rattle.pl_cone.specs.Linking as spec;
 ghost use Rattle.pl_cone.specs.Links as by_walk;
+ghost use Rattle.pl_cone.specs.OneWord as one_word;
+ghost use Rattle.pl_cone.specs.OneSymbol as one_symbol;
 ghost use Rattle.pl_cone.specs.Skips.{skip_is_memory};
 ghost use Rattle.pl_cone.specs.Table as table;
 ghost use Rattle.pl_cone.specs.Taken.{WereTaken};
 
-use crate::one_word::gives_one_word;
-use crate::values::{WalkLinking, modules_of, sought};
+use crate::scopes::{WalkLinking, modules_of, sought};
 use crate::{Skip, Taken, WalkScope};
 use pl_base::{Rows, Text};
+use pl_elf::constants::{
+    R_X86_64_64, R_X86_64_GLOB_DAT, R_X86_64_JUMP_SLOT, R_X86_64_NONE, R_X86_64_RELATIVE,
+};
 use pl_io::NoMemory;
-use pl_scope::{Found, Index};
+use pl_object::Reloc;
+use pl_scope::{Found, Index, Reference, Scope, own_symbol};
 use pl_value::reference_of;
 use std::alloc::Global;
 
@@ -22,6 +32,7 @@ use std::alloc::Global;
 pub struct Link {
     /// For each of them, in their order, the symbol that it finds among the members of the walk, if it finds one.
     pub found: Rows<Option<Found>>,
+
     /// Of a library the indexes, ascending, of those that are not known to give the same in every walk which holds the library. A program has none.
     pub remaining: Rows<u32>,
 }
@@ -51,6 +62,7 @@ pub struct WalkedFiles<'t> {
 pub struct Linked {
     /// For each file, in their order, what its own relocations find; of no relocations where it may not be prelinked.
     pub links: Vec<Link>,
+
     /// For each file the first cause why it may not be prelinked, if there is one.
     pub causes: Vec<Option<Skip>>,
 }
@@ -78,6 +90,56 @@ fn all_formed(alloc: Global, files: &[Taken], walk: &[u32]) -> Result<(), Skip>
         }
     }
     Ok(())
+}
+
+#[tactic(auto, unfolding(crate::specs::OneWord::is_of_address))]
+fn is_of_address(kind: u32) -> bool
+    ensures { result ≡ one_word.is_of_address kind }
+{
+    kind == R_X86_64_64 || kind == R_X86_64_GLOB_DAT || kind == R_X86_64_JUMP_SLOT
+}
+
+#[tactic(auto, unfolding(crate::specs::OneWord::is_without_symbol))]
+fn is_without_symbol(kind: u32) -> bool
+    ensures { result ≡ one_word.is_without_symbol kind }
+{
+    kind == R_X86_64_RELATIVE || kind == R_X86_64_NONE
+}
+
+/// Whether a reference of the first member finds a symbol with an address, and its name has one object at most that defines it.
+fn is_settled(index: &Index, own: &Scope<'_>, reference: Reference, found: Found) -> bool
+    requires reference { IsSymbol (objects own.now) reference.member reference.symbol }
+    requires found { finds (objects own.now) reference ≡ Some found }
+    ensures { OnTrue result (one_symbol.FindsOneSymbolBy index.now (objects own.now) reference) }
+{
+    let object = own.object(found.member);
+    let symbol = &object.symbols.as_slice()[found.symbol as usize];
+    if symbol.is_tls() {
+        return false;
+    }
+    let name = own_symbol(own, reference).name.as_slice();
+    !index.may_share(name)
+}
+
+/// Whether a relocation of a library, the first member of its own walk, is known to give the same in every walk of the folder that holds the library: it refers to no symbol, or it gives the address of a symbol that no second object of the folder defines and that it finds in the own walk and that is not thread-local. `found` is what it finds there.
+fn gives_one_word(index: &Index, own: &Scope<'_>, reloc: &Reloc, found: Option<Found>) -> bool
+    requires reference { IsSymbol (objects own.now) 0 reloc.now.symbol }
+    requires found { IsSought (objects own.now) (value.reference 0 reloc.now) found }
+    ensures { OnTrue result (one_word.GivesOneWordBy index.now (objects own.now) reloc.now) }
+{
+    if is_without_symbol(reloc.kind) {
+        return true;
+    }
+    if !is_of_address(reloc.kind) {
+        return false;
+    }
+    if reloc.symbol == 0 {
+        return true;
+    }
+    match found {
+        None => false,
+        Some(found) => is_settled(index, own, reference_of(0, reloc), found),
+    }
 }
 
 /// What the relocations of the first member of a walk find there, and which of them remain: which are not known to give the same in every walk. It fails only for want of memory, as which 2^32 relocations count too.

@@ -13,8 +13,10 @@ use std::collections::BTreeMap;
 #[derive(Drop)]
 pub struct Needs<'f> {
     pub files: &'f [Taken],
+
     /// The names in the order of their numbers.
     pub names: Vec<&'f str>,
+
     /// For each file, in their order, the numbers of the names that its object needs, in their order; none where it has no object.
     pub needed: Vec<Vec<u32>>,
 }
@@ -23,6 +25,7 @@ pub struct Needs<'f> {
 #[derive(Drop)]
 struct Numbering<'f> {
     numbers: BTreeMap<&'f str, u32>,
+
     /// The names in the order of their numbers.
     names: Vec<&'f str>,
 }

@@ -16,12 +16,16 @@ use std::alloc::Global;
 #[derive(Drop)]
 pub struct RunTable<'f> {
     pub files: &'f [Taken],
+
     /// For each file the rows of the members of its name's walk, in the order of the walk, its own first; none where the walk is refused.
     pub walks: Rows<Rows<u32>>,
+
     /// The rows of the objects that define a name, by its hash.
     pub index: Index,
+
     /// For each file what its own relocations find by its walk; of no relocations where it may not be prelinked.
     pub links: Rows<Link>,
+
     /// For each file the first cause why it may not be prelinked; None where it may be. It is no want of memory.
     pub causes: Rows<Option<Skip>>,
 }

@@ -21,6 +21,7 @@ use std::alloc::{AllocError, Global};
 pub struct FolderWalks {
     /// For each file, in their order, the rows of the members of its name's walk, in the order of the walk, its own first; none where the walk is refused.
     pub walks: Rows<Rows<u32>>,
+
     /// For each file the first cause why its walk is refused, if there is one. It is no want of memory.
     pub causes: Rows<Option<Skip>>,
 }
@@ -30,8 +31,10 @@ pub struct FolderWalks {
 pub struct NumberWalk {
     /// The numbers of the names so far, in their order.
     pub numbers: Vec<u32>,
+
     /// For each number of a name the last walk that had it, 0 where none did.
     pub last: Vec<u32>,
+
     /// Which walk it is, from 1 on.
     pub walk: u32,
 }

@@ -1,7 +1,7 @@
 -- The conflict rows that are made of a program are those of its file.
 use Rattle.std.proofs.Common.{◌≡◌, ℕ, List, Some, None, Result, sym, ap, subst, ◌∙◌}
 use Rattle.pl_cone.specs.Links.{objects_of}
-use Rattle.pl_cone.specs.declared.values.WalkLinking.{WalkLinking}
+use Rattle.pl_cone.specs.declared.scopes.WalkLinking.{WalkLinking}
 use Rattle.pl_conflict.specs.Compared.{AreCompared}
 use Rattle.pl_conflict.specs.Conflicts.{conflicts}
 use Rattle.pl_conflict.specs.Prelinked as firm

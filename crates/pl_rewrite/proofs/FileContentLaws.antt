@@ -1,7 +1,7 @@
 -- The file of a row's program by what it is made of, in a version.
 use Rattle.std.proofs.Common.{◌≡◌, ℕ, true, List, Option, Some, None, Ok, Err, refl, sym, ap, subst, ◌∙◌}
 use Rattle.pl_base.specs.Answers.{because}
-use Rattle.pl_cone.specs.declared.values.WalkLinking.{WalkLinking}
+use Rattle.pl_cone.specs.declared.scopes.WalkLinking.{WalkLinking}
 use Rattle.pl_conflict.specs.Conflicts.{conflicts}
 use Rattle.pl_conflict.specs.Prelinked.{Firm, are_set, objects_of, parts_of, slots_of, stored}
 use Rattle.pl_form.specs.declared.file.Fill.{Fill}

@@ -17,8 +17,8 @@ use Rattle.law_sound.specs.Rule.{Files}
 use Rattle.pl_rewrite.specs.Outcomes as outcomes
 use Rattle.pl_rewrite.specs.Outcomes.{AreOutcomes, IsOutcome, MayBe, made_from, planned_of, with_made}
 use Rattle.pl_rewrite.specs.Rewriting.{AreDecided, rewritten, run_made}
-use Rattle.pl_rewrite.specs.declared.finishing.MadeFiles.{MadeFiles}
-use Rattle.pl_rewrite.specs.declared.finishing.Made.{Made}
+use Rattle.pl_rewrite.specs.declared.rewriting.MadeFiles.{MadeFiles}
+use Rattle.pl_rewrite.specs.declared.rewriting.Made.{Made}
 use Rattle.pl_rewrite.specs.declared.outcomes.RowOutcome.{RowOutcome}
 use Rattle.pl_rewrite.specs.declared.rewriting.Rewritten.{Rewritten}
 use Rattle.pl_rewrite.proofs.PlanLaws.{made_append, made_none, rewritten_is}

@@ -6,9 +6,9 @@ use Rattle.std.proofs.lemmas.Slice.Zip.{AllZip-long}
 use Rattle.pl_cone.specs.declared.taken.Taken.{Taken}
 use Rattle.pl_rewrite.specs.Outcomes.{all_made, made_by, made_from, with_made}
 use Rattle.pl_journal.specs.declared.change.Change.{Change}
-use Rattle.pl_rewrite.specs.declared.finishing.MadeFiles.{MadeFiles}
+use Rattle.pl_rewrite.specs.declared.rewriting.MadeFiles.{MadeFiles}
 use Rattle.pl_rewrite.specs.declared.outcomes.RowOutcome.{RowOutcome}
-use Rattle.pl_rewrite.specs.declared.report.ReportRow.{ReportRow}
+use Rattle.pl_rewrite.specs.declared.rewriting.ReportRow.{ReportRow}
 
 -- the next file, and its outcome
 pub record IsNext (R : Taken → RowOutcome → Type 0) (ts : List Taken) (os : List RowOutcome) (i : ℕ) (t : Taken) (o : RowOutcome) (rest : List RowOutcome) : Type 0 where

@@ -15,7 +15,7 @@ use Rattle.pl_cone.specs.Taken.{files_in, object_by, object_of}
 use Rattle.pl_cone.specs.WalkRows.{GivesOneWordAt, HasOwnWalk}
 use Rattle.pl_cone.specs.declared.linking.Link.{Link}
 use Rattle.pl_cone.specs.declared.taken.Taken.{Taken}
-use Rattle.pl_cone.specs.declared.values.WalkLinking.{WalkLinking}
+use Rattle.pl_cone.specs.declared.scopes.WalkLinking.{WalkLinking}
 use Rattle.pl_cone.proofs.FolderLaws.{member_has}
 use Rattle.pl_cone.proofs.NeedLaws.{slice_get_at}
 use Rattle.pl_cone.proofs.RowLaws.{IsRow, row_is}

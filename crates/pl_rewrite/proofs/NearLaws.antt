@@ -8,7 +8,7 @@ use Rattle.pl_base.proofs.AnswerLaws.{ok_same}
 use Rattle.pl_base.proofs.EachLaws.{length-each}
 use Rattle.pl_conflict.proofs.MeaningLaws.{start_is}
 use Rattle.pl_cone.specs.Links.{objects_of}
-use Rattle.pl_cone.specs.declared.values.WalkLinking.{WalkLinking}
+use Rattle.pl_cone.specs.declared.scopes.WalkLinking.{WalkLinking}
 use Rattle.pl_elf.specs.declared.range.Range.{Range}
 use Rattle.pl_object.specs.declared.reloc.Reloc.{Reloc}
 use Rattle.pl_value.specs.Meanings.{Row, meaning, row}

@@ -29,7 +29,7 @@ use Rattle.law_sound.specs.Rule as sound
 use Rattle.law_sound.specs.Rule.{Files, Member, Mark, objects, object_at, of_walk}
 use Rattle.pl_rewrite.specs.Contents.{conflicts_in, count_in}
 use Rattle.pl_rewrite.specs.Reports as reports
-use Rattle.pl_rewrite.specs.declared.report.RowState.TheVariants.{Library, Program}
+use Rattle.pl_rewrite.specs.declared.rewriting.RowState.TheVariants.{Library, Program}
 use Rattle.pl_rewrite.proofs.FormLaws.{original_is}
 
 -- ---- the kind of a file

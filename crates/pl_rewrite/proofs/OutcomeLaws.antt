@@ -22,9 +22,9 @@ use Rattle.pl_rewrite.specs.Changes.{next, put}
 use Rattle.pl_rewrite.specs.Outcomes.{made_in}
 use Rattle.pl_rewrite.specs.Reports as reports
 use Rattle.pl_rewrite.specs.Reports.{marked_at, state_by}
-use Rattle.pl_rewrite.specs.declared.finishing.Made.{Made}
-use Rattle.pl_rewrite.specs.declared.report.RowState.{RowState}
-use Rattle.pl_rewrite.specs.declared.report.RowState.TheVariants.{Skipped}
+use Rattle.pl_rewrite.specs.declared.rewriting.Made.{Made}
+use Rattle.pl_rewrite.specs.declared.rewriting.RowState.{RowState}
+use Rattle.pl_rewrite.specs.declared.rewriting.RowState.TheVariants.{Skipped}
 use Rattle.pl_rewrite.proofs.NextLaws.{next_off, next_on, scratch_by}
 
 -- ---- the parts of what is made

@@ -8,7 +8,7 @@ use Rattle.pl_elf.specs.declared.range.Range.{Range}
 use Rattle.pl_journal.specs.declared.change.Change.{Change}
 use Rattle.pl_cone.specs.Plans.{planned, slots, stale, stamp_for, standings}
 use Rattle.pl_cone.specs.declared.planning.Asked.{Asked}
-use Rattle.pl_cone.specs.declared.fault.PlanningFault.{PlanningFault}
+use Rattle.pl_cone.specs.declared.skip.PlanningFault.{PlanningFault}
 use Rattle.pl_cone.specs.Plans.{RunPlan}
 use Rattle.pl_slots.specs.declared.slot.Slot.{Slot}
 use Rattle.law_sound.specs.Rule.{Files}
@@ -16,9 +16,9 @@ use Rattle.pl_rewrite.specs.Changes.{change, changes, is_given, next_cache}
 use Rattle.pl_rewrite.specs.Outcomes.{with_made}
 use Rattle.pl_rewrite.specs.Reports.{report, row_of, state_after}
 use Rattle.pl_rewrite.specs.Rewriting.{rewrite, rewritten, rewritten_with, run_made}
-use Rattle.pl_rewrite.specs.declared.finishing.MadeFiles.{MadeFiles}
-use Rattle.pl_rewrite.specs.declared.finishing.Made.{Made}
-use Rattle.pl_rewrite.specs.declared.report.ReportRow.{ReportRow}
+use Rattle.pl_rewrite.specs.declared.rewriting.MadeFiles.{MadeFiles}
+use Rattle.pl_rewrite.specs.declared.rewriting.Made.{Made}
+use Rattle.pl_rewrite.specs.declared.rewriting.ReportRow.{ReportRow}
 
 -- ---- what a plan says of its names
 

@@ -9,7 +9,7 @@ use Rattle.pl_base.specs.Answers.{Answers, because}
 use Rattle.pl_base.specs.Each.{each}
 use Rattle.pl_base.proofs.AnswerLaws.{because_ok, bind_ok}
 use Rattle.pl_cone.specs.Links as links
-use Rattle.pl_cone.specs.declared.values.WalkLinking.{WalkLinking}
+use Rattle.pl_cone.specs.declared.scopes.WalkLinking.{WalkLinking}
 use Rattle.pl_conflict.specs.Own.{FindAll}
 use Rattle.pl_conflict.specs.Complete.{IsProgramScope}
 use Rattle.pl_conflict.specs.Conflicts.{ascending, conflicts, rows_of}

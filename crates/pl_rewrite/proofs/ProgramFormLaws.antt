@@ -10,7 +10,7 @@ use Rattle.pl_cone.specs.Skipped.{skip_causes}
 use Rattle.pl_cone.specs.Skips.{of_walk}
 use Rattle.pl_cone.specs.declared.scopes.WalkScope.{WalkScope}
 use Rattle.pl_cone.specs.declared.taken.Taken.{Taken}
-use Rattle.pl_cone.specs.declared.values.WalkLinking.{WalkLinking}
+use Rattle.pl_cone.specs.declared.scopes.WalkLinking.{WalkLinking}
 use Rattle.pl_cone.proofs.AmongLaws.{index_among}
 use Rattle.pl_cone.proofs.MembersLaws.{AreOnce, once_members}
 use Rattle.pl_conflict.specs.Format.{format}

@@ -40,14 +40,14 @@ use Rattle.pl_rewrite.specs.Outcomes.{IsMadeAt, IsOutcome, KeepsFile, MayBe, kep
 use Rattle.pl_rewrite.specs.Outcomes as spec
 use Rattle.pl_rewrite.specs.Reports as reports
 use Rattle.pl_rewrite.specs.Rows.{IsFirmAt, IsWalkRow, firm_by, firms_of, is_library_row, number_at, of_firm}
-use Rattle.pl_rewrite.specs.declared.finishing.Made.{Made}
+use Rattle.pl_rewrite.specs.declared.rewriting.Made.{Made}
 use Rattle.pl_rewrite.specs.declared.numbers.Numbered.{Numbered}
 use Rattle.pl_rewrite.specs.declared.outcomes.NewLibrary.{NewLibrary}
 use Rattle.pl_rewrite.specs.declared.outcomes.NewProgram.{NewProgram}
 use Rattle.pl_rewrite.specs.declared.outcomes.RowOutcome.{RowOutcome}
 use Rattle.pl_rewrite.specs.declared.outcomes.RowOutcome.TheVariants as outcomes
-use Rattle.pl_rewrite.specs.declared.report.RowState.{RowState}
-use Rattle.pl_rewrite.specs.declared.report.RowState.TheVariants as states
+use Rattle.pl_rewrite.specs.declared.rewriting.RowState.{RowState}
+use Rattle.pl_rewrite.specs.declared.rewriting.RowState.TheVariants as states
 use Rattle.pl_rewrite.proofs.CandidateRowLaws.{table_with, walk_row}
 use Rattle.pl_rewrite.proofs.FirmRowLaws.{IsRowOf, row_of}
 use Rattle.pl_rewrite.proofs.LibraryAtLaws.{object_known}

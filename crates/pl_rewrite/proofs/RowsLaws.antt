@@ -18,7 +18,7 @@ use Rattle.pl_conflict.specs.Conflicts.{held, row_of, rows_of}
 use Rattle.pl_conflict.proofs.MeaningLaws.{front_err, member_is, some_of}
 use Rattle.pl_conflict.proofs.HeldLaws.{rows_both, rows_one}
 use Rattle.pl_cone.specs.Links.{objects_of}
-use Rattle.pl_cone.specs.declared.values.WalkLinking.{WalkLinking}
+use Rattle.pl_cone.specs.declared.scopes.WalkLinking.{WalkLinking}
 use Rattle.pl_elf.specs.declared.range.Range.{Range}
 use Rattle.pl_image.specs.declared.loaded_object.LoadedObject.{LoadedObject}
 use Rattle.pl_lists.specs.declared.conflict_row.ConflictRow.{ConflictRow}

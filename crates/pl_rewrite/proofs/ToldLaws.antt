@@ -9,7 +9,7 @@ use Rattle.pl_base.specs.Sums.{plus}
 use Rattle.pl_base.proofs.AnswerLaws.{ok_same}
 use Rattle.pl_cone.specs.OneWord.{GivesOneWordBy}
 use Rattle.pl_cone.specs.Links.{objects_of}
-use Rattle.pl_cone.specs.declared.values.WalkLinking.{WalkLinking}
+use Rattle.pl_cone.specs.declared.scopes.WalkLinking.{WalkLinking}
 use Rattle.pl_conflict.specs.Quiet.{HoldsWord}
 use Rattle.pl_conflict.specs.Between.{HoldsBetween}
 use Rattle.pl_conflict.specs.Conflicts.{held}

@@ -4,7 +4,7 @@ use Rattle.std.specs.Option.{option_map}
 use Rattle.pl_cone.specs.Links.{IsLinking}
 use Rattle.pl_cone.specs.Table.{walked_by}
 use Rattle.pl_cone.specs.declared.linking.Link.{Link}
-use Rattle.pl_cone.specs.declared.values.WalkLinking.{WalkLinking}
+use Rattle.pl_cone.specs.declared.scopes.WalkLinking.{WalkLinking}
 use Rattle.pl_conflict.specs.Prelinked as firm
 use Rattle.pl_conflict.specs.Prelinked.{Firm, objects_of, slots_of}
 use Rattle.pl_form.specs.declared.version.Version.{Version}

@@ -31,7 +31,7 @@ pub use Rattle.pl_cone.specs.Skipped
 pub use Rattle.pl_cone.specs.Skips
 pub use Rattle.pl_cone.specs.Taken
 pub use Rattle.pl_cone.specs.declared.planning.Asked
-pub use Rattle.pl_cone.specs.declared.fault.PlanningFault
+pub use Rattle.pl_cone.specs.declared.skip.PlanningFault
 pub use Rattle.pl_cone.specs.declared.skip.ConeFault
 pub use Rattle.pl_cone.specs.declared.skip.Skip
 pub use Rattle.pl_cone.specs.declared.currency.TheConstants as LastStamps

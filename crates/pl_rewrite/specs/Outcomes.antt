@@ -25,15 +25,15 @@ use Rattle.pl_rewrite.specs.Reports as reports
 use Rattle.pl_rewrite.specs.Rows.{IsFileMeant, IsNumbered, IsWalkRow, is_library_row, walk_of}
 use Rattle.pl_rewrite.specs.RowWords.{AreRowWords, is_set, own_words_at}
 use Rattle.pl_rewrite.specs.Contents.{IsNewProgram, IsProgramRow, IsWork}
-use Rattle.pl_rewrite.specs.declared.finishing.MadeFiles.{MadeFiles}
-use Rattle.pl_rewrite.specs.declared.finishing.Made.{Made}
+use Rattle.pl_rewrite.specs.declared.rewriting.MadeFiles.{MadeFiles}
+use Rattle.pl_rewrite.specs.declared.rewriting.Made.{Made}
 use Rattle.pl_rewrite.specs.declared.numbers.Numbered.{Numbered}
 use Rattle.pl_rewrite.specs.declared.outcomes.NewLibrary.{NewLibrary}
 use Rattle.pl_rewrite.specs.declared.outcomes.RowOutcome.{RowOutcome}
 use Rattle.pl_rewrite.specs.declared.outcomes.RowOutcome.TheVariants as outcomes
 use Rattle.pl_rewrite.specs.declared.program.Work.{Work}
-use Rattle.pl_rewrite.specs.declared.report.RowState.{RowState}
-use Rattle.pl_rewrite.specs.declared.report.RowState.TheVariants as states
+use Rattle.pl_rewrite.specs.declared.rewriting.RowState.{RowState}
+use Rattle.pl_rewrite.specs.declared.rewriting.RowState.TheVariants as states
 use Rattle.pl_rewrite.specs.declared.row_words.Needed.{Needed}
 use Rattle.pl_rewrite.specs.declared.row_words.RowWords.{RowWords}
 

@@ -7,7 +7,7 @@ use Rattle.pl_base.specs.Each.{each}
 use Rattle.pl_base.specs.Sums.{plus}
 use Rattle.pl_cone.specs.Links.{objects_of}
 use Rattle.pl_conflict.specs.Own.{FindAll}
-use Rattle.pl_cone.specs.declared.values.WalkLinking.{WalkLinking}
+use Rattle.pl_cone.specs.declared.scopes.WalkLinking.{WalkLinking}
 use Rattle.pl_conflict.specs.Quiet.{GivesQuiet}
 use Rattle.pl_conflict.specs.Between.{HoldsBetween}
 use Rattle.pl_conflict.specs.Compared.{AreCompared}

@@ -11,10 +11,10 @@ use Rattle.pl_cone.specs.Skipped.{skip_of}
 use Rattle.pl_cone.specs.Plans.{RunPlan}
 use Rattle.law_sound.specs.Rule.{Files}
 use Rattle.pl_rewrite.specs.Changes.{next}
-use Rattle.pl_rewrite.specs.declared.report.Report.{Report}
-use Rattle.pl_rewrite.specs.declared.report.ReportRow.{ReportRow}
-use Rattle.pl_rewrite.specs.declared.report.RowState.{RowState}
-use Rattle.pl_rewrite.specs.declared.report.RowState.TheVariants.{Library, Program, Skipped}
+use Rattle.pl_rewrite.specs.declared.rewriting.Report.{Report}
+use Rattle.pl_rewrite.specs.declared.rewriting.ReportRow.{ReportRow}
+use Rattle.pl_rewrite.specs.declared.rewriting.RowState.{RowState}
+use Rattle.pl_rewrite.specs.declared.rewriting.RowState.TheVariants.{Library, Program, Skipped}
 
 -- a prelinked file: a library's slot and stamp, a program's number of conflict rows
 abbrev pub state_of : Bool → Marked → RowState

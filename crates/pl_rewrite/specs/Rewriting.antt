@@ -5,7 +5,7 @@ use Rattle.pl_base.specs.Answers.{◌>>=◌}
 use Rattle.pl_cone.specs.Taken.{AreTaken, files_in}
 use Rattle.pl_cone.specs.declared.taken.Taken.{Taken}
 use Rattle.pl_cone.specs.declared.planning.Asked.{Asked}
-use Rattle.pl_cone.specs.declared.fault.PlanningFault.{PlanningFault}
+use Rattle.pl_cone.specs.declared.skip.PlanningFault.{PlanningFault}
 use Rattle.pl_cone.specs.Plans.{RunPlan, planned}
 use Rattle.law_sound.specs.Rule.{Files}
 use Rattle.pl_elf.specs.declared.range.Range.{Range}
@@ -14,7 +14,7 @@ use Rattle.pl_cone.specs.declared.planning.RowPlan.{RowPlan}
 use Rattle.pl_rewrite.specs.Outcomes.{IsOutcome, planned_of}
 use Rattle.pl_rewrite.specs.Reports.{report, row_of}
 use Rattle.pl_rewrite.specs.declared.outcomes.RowOutcome.{RowOutcome}
-use Rattle.pl_rewrite.specs.declared.finishing.MadeFiles.{MadeFiles}
+use Rattle.pl_rewrite.specs.declared.rewriting.MadeFiles.{MadeFiles}
 use Rattle.pl_rewrite.specs.declared.rewriting.Rewritten.{Rewritten}
 
 abbrev pub rewritten : Files → List (List ℕ) → Asked → RunPlan → Rewritten

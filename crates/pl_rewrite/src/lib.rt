@@ -6,16 +6,13 @@
 mod apart;
 mod conflict;
 mod copies;
-mod finishing;
 mod laws;
 mod library;
-mod lists;
 mod numbers;
 mod outcomes;
 mod own_words;
 mod program;
 mod ranges;
-mod report;
 mod rewriting;
 mod row_words;
 mod verifying;
@@ -25,6 +22,5 @@ pub use laws::{
     originals_stay, rows_make_the_files, runs_are_steps, stamps_name_files, verified_keep_the_rule,
 };
 pub use pl_cone::{Asked, PlanningFault, Skip, Taken, take_file};
-pub use report::{Report, ReportRow, RowState};
-pub use rewriting::{Rewritten, rewrite};
+pub use rewriting::{Report, ReportRow, Rewritten, RowState, rewrite};
 pub use verifying::{is_verified, verified_original};

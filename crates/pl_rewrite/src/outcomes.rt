@@ -5,8 +5,7 @@ ghost use Rattle.pl_rewrite.specs.Rows as rows;
 ghost use Rattle.pl_rewrite.specs.RowWords as by_rows;
 
 use crate::RowState;
-use crate::library::new_library;
-use crate::lists::digests_of;
+use crate::library::{digests_of, new_library};
 use crate::numbers::Numbered;
 use crate::own_words::OwnWords;
 use crate::program::{Work, program_file};

@@ -7,7 +7,7 @@ ghost use Rattle.pl_rewrite.specs.Fills.{AreFirstFills};
 use crate::apart::are_set;
 use crate::conflict::{RemainingRows, own_meanings, remaining_rows};
 use crate::copies::program_fills;
-use crate::lists::{digest_at, list_of};
+use crate::library::{digest_at, list_of};
 use crate::numbers::{Numbered, PlacedWalk};
 use crate::outcomes::NewProgram;
 use crate::row_words::RowWords;

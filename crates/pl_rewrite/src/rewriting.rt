@@ -1,17 +1,55 @@
-// A whole run that prelinks everything.
+// A whole run that prelinks everything: what is made of files by their outcomes, each of which is let go in its turn.
+ghost use Rattle.std.specs.Prelude.{◌≡◌, IfOk, Some, if◌then◌else◌};
+ghost use Rattle.std.specs.List.{All};
 ghost use Rattle.pl_base.specs.Answers.{Answers};
 ghost use Rattle.pl_cone.specs.Faulted.{is_memory};
-ghost use Rattle.pl_cone.specs.Taken.{AreTaken, files_in, names_of};
+ghost use Rattle.pl_cone.specs.Taken.{AreTaken, HasItsEntry, files_in, names_of};
+ghost use Rattle.pl_rewrite.specs.Changes as changes;
+ghost use Rattle.pl_rewrite.specs.Outcomes as told;
 ghost use Rattle.pl_rewrite.specs.Rewriting as spec;
 
-use crate::Report;
-use crate::finishing::finish;
-use crate::outcomes::outcomes;
-use pl_base::Rows;
+use crate::library::storable_library;
+use crate::outcomes::{NewLibrary, RowOutcome, outcomes, too_large};
+use pl_base::{Rows, Text};
 use pl_cache::Cache;
-use pl_cone::{Asked, PlanningFault, RunTable, Taken, plan_of};
+use pl_cone::{Asked, PlanningFault, RowPlan, RunTable, Skip, Taken, plan_of};
+use pl_form::Version;
+use pl_io::NoMemory;
 use pl_journal::Change;
-use std::alloc::Global;
+use std::alloc::{AllocError, Global};
+
+/// What a run that prelinks everything makes of each name, in their order.
+#[derive(Drop)]
+pub struct Report {
+    pub rows: Rows<ReportRow>,
+}
+
+/// What it makes of one name.
+#[derive(Drop)]
+pub struct ReportRow {
+    pub name: Text,
+    pub state: RowState,
+}
+
+/// The state of a name after the run.
+#[derive(Drop)]
+pub enum RowState {
+    /// A prelinked library with its slot and its stamp; `current` where it stays as it was.
+    Library {
+        current: bool,
+        slot: u64,
+        stamp: u32,
+    },
+
+    /// A prelinked program with the number of its conflict rows; `current` where it stays as it was.
+    Program {
+        current: bool,
+        conflicts: u64,
+    },
+
+    /// Not prelinked, and the first cause why. `NoMemory` does not come here.
+    Skipped(Skip),
+}
 
 /// What a run changes, what it leaves in the cache, and what it reports.
 #[derive(Drop)]
@@ -24,6 +62,198 @@ pub struct Rewritten {
 
     /// What became of each name, in the order of the files.
     pub report: Report,
+}
+
+/// What a run makes of one file.
+#[derive(Drop)]
+pub struct Made {
+    /// Its row in the journal; None where its bytes would not change.
+    pub change: Option<Change>,
+    pub state: RowState,
+
+    /// Whether it gets the stamp of the run.
+    pub given: bool,
+}
+
+/// What a run makes of all files.
+#[derive(Drop)]
+pub struct MadeFiles {
+    pub rows: Rows<Change>,
+    pub states: Rows<ReportRow>,
+
+    /// Whether a file gets the stamp of the run.
+    pub given: bool,
+}
+
+/// The row that gives a name other bytes than its old ones; None where they are the same.
+fn put(alloc: Global, name: &str, old: &[u8], bytes: Vec<u8>) -> Result<Option<Change>, AllocError>
+    ensures { IfOk result (λ r. r ≡ changes.put (Some old.now) name.now (Some bytes.items)) }
+{
+    if old == bytes.as_slice() {
+        return Ok(None);
+    }
+    Ok(Some(Change::Put {
+        name: Text::copy_of(alloc, name)?,
+        bytes: Rows::from_vec(bytes),
+    }))
+}
+
+fn put_original(alloc: Global, taken: &Taken) -> Result<Option<Change>, AllocError>
+    requires { HasItsEntry taken.now }
+    ensures { IfOk result (λ row. row ≡ told.put_original taken.now) }
+{
+    let Some(marked) = taken.marked() else {
+        return Ok(None);
+    };
+    let original = Vec::from_slice(alloc, marked.original.as_slice())?;
+    put(alloc, taken.name.as_str(), taken.bytes.as_slice(), original)
+}
+
+/// A file that gets its original, for a cause. Any file but a prelinked one is its own.
+fn made_original(alloc: Global, taken: &Taken, cause: Skip) -> Result<Made, AllocError>
+    requires { HasItsEntry taken.now }
+    ensures { IfOk result (λ made. made ≡ told.made_original taken.now cause) }
+{
+    Ok(Made {
+        change: put_original(alloc, taken)?,
+        state: RowState::Skipped(cause),
+        given: false,
+    })
+}
+
+fn renewed(alloc: Global, taken: &Taken, file: Vec<u8>, state: RowState) -> Result<Made, AllocError>
+    ensures { IfOk result (λ made. made ≡ told.renewed taken.now file.items state) }
+{
+    Ok(Made {
+        change: put(alloc, taken.name.as_str(), taken.bytes.as_slice(), file)?,
+        state,
+        given: true,
+    })
+}
+
+/// A library that is prelinked anew; one whose file would be too large gets its original.
+fn made_library(alloc: Global, taken: &Taken, parts: &NewLibrary) -> Result<Made, NoMemory>
+    requires read { HasItsEntry taken.now }
+    requires form { told.HasLibraryForm taken.now parts.now }
+    ensures { IfOk result (λ made. made ≡ told.made_library taken.now parts.now) }
+{
+    match storable_library(alloc, taken, parts, Version::Two)? {
+        None => Ok(made_original(alloc, taken, too_large(alloc, taken)?)?),
+        Some(file) => {
+            let state = RowState::Library {
+                current: false,
+                slot: parts.slot,
+                stamp: parts.stamp,
+            };
+            Ok(renewed(alloc, taken, file, state)?)
+        }
+    }
+}
+
+fn made_last(alloc: Global, taken: &Taken, outcome: RowOutcome) -> Result<Made, NoMemory>
+    requires read { HasItsEntry taken.now }
+    requires may { told.MayBe taken.now outcome }
+    ensures { IfOk result (λ made. made ≡ told.made_by taken.now outcome) }
+{
+    match outcome {
+        RowOutcome::Unchanged(state) => Ok(Made {
+            change: None,
+            state,
+            given: false,
+        }),
+        RowOutcome::Original(cause) => Ok(made_original(alloc, taken, cause)?),
+        RowOutcome::Program(program) => {
+            let state = RowState::Program {
+                current: false,
+                conflicts: program.conflicts,
+            };
+            Ok(renewed(alloc, taken, program.file, state)?)
+        }
+        RowOutcome::Library(parts) => made_library(alloc, taken, &parts),
+    }
+}
+
+fn name_of(taken: Taken) -> Text
+    ensures { result ≡ taken.name }
+{
+    let Taken { name, .. } = taken;
+    name
+}
+
+fn add_made(all: MadeFiles, name: Text, made: Made) -> Result<MadeFiles, AllocError>
+    ensures { IfOk result (λ more. more ≡ told.with_made all name made) }
+{
+    let MadeFiles {
+        mut rows,
+        mut states,
+        given,
+    } = all;
+    rows.push_some(made.change)?;
+    states.push(ReportRow {
+        name,
+        state: made.state,
+    })?;
+    Ok(MadeFiles {
+        rows,
+        states,
+        given: given || made.given,
+    })
+}
+
+fn all_made(
+    alloc: Global,
+    files: Rows<Taken>,
+    outcomes: Vec<RowOutcome>,
+) -> Result<MadeFiles, NoMemory>
+    requires read { All HasItsEntry files }
+    requires may { told.MayBeAll files outcomes.items }
+    ensures { IfOk result (λ all. all ≡ told.all_made files outcomes.items) }
+{
+    let mut outcomes = outcomes.into_iter();
+    let mut all = MadeFiles {
+        rows: Rows::new(alloc),
+        states: Rows::new(alloc),
+        given: false,
+    };
+    let items = files.into_vec();
+    for taken in items {
+        if let Some(outcome) = outcomes.next() {
+            let made = made_last(alloc, &taken, outcome)?;
+            let name = name_of(taken);
+            all = add_made(all, name, made)?;
+        }
+    }
+    Ok(all)
+}
+
+fn last_of(asked: &Asked<'_>, plan: &RowPlan, made: &MadeFiles) -> u32
+    ensures { result ≡ (if made.now.given then plan.now.stamp else asked.now.last) }
+{
+    if made.given { plan.stamp } else { asked.last }
+}
+
+/// What a run makes of its files by their outcomes, with the cache that it leaves. Each file is let go once its new one is there. It fails only for want of memory.
+pub fn finish(
+    alloc: Global,
+    files: Rows<Taken>,
+    asked: &Asked<'_>,
+    plan: RowPlan,
+    outcomes: Vec<RowOutcome>,
+) -> Result<Rewritten, NoMemory>
+    requires { spec.AreDecided files asked.now plan outcomes.items }
+    ensures { IfOk result (λ all. all ≡ spec.rewritten (files_in files) (names_of files) asked.now
+        (told.planned_of files asked.now plan)) }
+{
+    let made = all_made(alloc, files, outcomes)?;
+    let last = last_of(asked, &plan, &made);
+    Ok(Rewritten {
+        rows: made.rows,
+        cache: Cache {
+            last,
+            rows: plan.slots,
+        },
+        report: Report { rows: made.states },
+    })
 }
 
 /// What a run that prelinks everything makes of the files of a folder, ascending by name; the first cause why it has no plan is NoSlot, then StampsSpent.

@@ -8,8 +8,7 @@ ghost use Rattle.pl_rewrite.specs.Rows as rows;
 ghost use Rattle.pl_rewrite.specs.RowWords as by_rows;
 ghost use Rattle.pl_rewrite.specs.Verify as spec;
 
-use crate::library::{new_library, storable_library};
-use crate::lists::digests_of;
+use crate::library::{digests_of, new_library, storable_library};
 use crate::numbers::Numbered;
 use crate::outcomes::held_by_programs;
 use crate::own_words::OwnWords;

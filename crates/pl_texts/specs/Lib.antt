@@ -15,4 +15,4 @@ pub mod Order
 pub mod Print
 pub mod Finds
 -- the report of a run, of which a text is said
-pub use Rattle.pl_rewrite.specs.declared.report.Report
+pub use Rattle.pl_rewrite.specs.declared.rewriting.Report

@@ -3,10 +3,10 @@ use Rattle.std.specs.Prelude.{ℕ, Bool, true, false, not, List, [], ◌∷◌, 
 use Rattle.std.specs.Fmt.{decimal}
 use Rattle.std.specs.List.{flat_map}
 use Rattle.pl_base.specs.Digits.{hex16, line_text}
-use Rattle.pl_rewrite.specs.declared.report.Report.{Report}
-use Rattle.pl_rewrite.specs.declared.report.ReportRow.{ReportRow}
-use Rattle.pl_rewrite.specs.declared.report.RowState.{RowState}
-use Rattle.pl_rewrite.specs.declared.report.RowState.TheVariants.{Library, Program, Skipped}
+use Rattle.pl_rewrite.specs.declared.rewriting.Report.{Report}
+use Rattle.pl_rewrite.specs.declared.rewriting.ReportRow.{ReportRow}
+use Rattle.pl_rewrite.specs.declared.rewriting.RowState.{RowState}
+use Rattle.pl_rewrite.specs.declared.rewriting.RowState.TheVariants.{Library, Program, Skipped}
 use Rattle.pl_texts.specs.declared.detail.Detail.{Detail}
 use Rattle.pl_texts.specs.declared.detail.Detail.TheVariants.{Short, Full}
 use Rattle.pl_texts.specs.Refusals.{skip_text}

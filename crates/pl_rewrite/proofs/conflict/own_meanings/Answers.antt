@@ -12,7 +12,7 @@ use Rattle.pl_value.specs.Meanings.{meaning}
 use Rattle.pl_value.specs.declared.fault.OrdinaryFault.TheVariants.{Link}
 use Rattle.pl_value.proofs.CollectingLaws.{reloc_more, reloc_stops, relocs_done}
 use Rattle.pl_value.proofs.LinkableLaws.{all_symbols}
-use Rattle.pl_cone.specs.declared.values.WalkLinking.{WalkLinking}
+use Rattle.pl_cone.specs.declared.scopes.WalkLinking.{WalkLinking}
 use Rattle.pl_object.specs.declared.object.Object.{Object}
 use Rattle.pl_value.specs.declared.fault.OrdinaryFault.{OrdinaryFault}
 use Rattle.pl_value.specs.declared.meaning.Meaning.{Meaning}

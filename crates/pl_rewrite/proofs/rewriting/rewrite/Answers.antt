@@ -5,7 +5,7 @@ use Rattle.pl_base.specs.Answers.{◌>>=◌, Answers}
 use Rattle.pl_cone.specs.Faulted.{is_memory}
 use Rattle.pl_cone.specs.Plans.{RunPlan, planned}
 use Rattle.pl_cone.specs.Taken.{AreTaken, files_in, names_of}
-use Rattle.pl_cone.specs.declared.fault.PlanningFault.{PlanningFault}
+use Rattle.pl_cone.specs.declared.skip.PlanningFault.{PlanningFault}
 use Rattle.pl_cone.specs.declared.taken.Taken.{Taken}
 use Rattle.pl_rewrite.specs.Outcomes.{planned_of}
 use Rattle.pl_rewrite.specs.Rewriting.{rewrite, rewritten}
