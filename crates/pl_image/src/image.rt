@@ -236,7 +236,12 @@ impl<'a> Image<'a> {
         ensures found { result < WORDS → (list_any (spec.stores_in result) pieces.now || is_touched
             self.now.patches result) ≡ true }
     {
-        next_stored(pieces, from).min(next_touched(&self.touched, from, &mut place.touched))
+        let touched = next_touched(&self.touched, from, &mut place.touched);
+        if touched == from {
+            from
+        } else {
+            next_stored(pieces, from).min(touched)
+        }
     }
 
     /// A number from one on, up to which the words of an object with these pieces are 0. Words that are masked whole are passed over.
