@@ -158,8 +158,8 @@ fn meets_run(
     entry: &Entry,
     others: &[Entry],
 ) -> bool
-    ensures { result ≡ runs.meets_run (spec.are_twins versions.now program symbols.now) spec.entry_key
-        entry.now others.now }
+    ensures { result ≡ runs.meets_run (spec.are_twins versions.now program symbols.now)
+        spec.entry_key entry.now others.now }
 {
     for other in others {
         if other.key != entry.key {
