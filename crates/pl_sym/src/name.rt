@@ -8,8 +8,8 @@ use std::alloc::{AllocError, Global};
 use std::marker::Model;
 use std::rc::RcSlice;
 
-/// How many bytes of a name stand in the symbol itself, as many as a pointer and two numbers have.
-const SHORT: usize = 23;
+/// How many bytes of a name stand in the symbol itself: with their count as many as a pointer and two numbers of 32 bits have.
+const SHORT: usize = 15;
 
 /// Where the bytes of a name stand.
 #[derive(Drop)]
@@ -23,8 +23,8 @@ enum NameBytes {
     /// In strings that names share: so many from a place on.
     Shared {
         strings: RcSlice<u8>,
-        start: usize,
-        size: usize,
+        start: u32,
+        size: u32,
     },
 }
 
@@ -80,19 +80,31 @@ fn here(bytes: &[u8]) -> NameBytes
     }
 }
 
+/// The place of bytes that strings share. Where a number has more than 32 bits, so in strings of 4 GiB or more, the answer is that of want of memory.
+fn shared(strings: &RcSlice<u8>, start: usize, size: usize) -> Result<NameBytes, AllocError>
+    ensures { IfOk result (λ p. spec.bytes_at p
+        ≡ take size (drop start (rc_slice_items strings.now))) }
+{
+    if start > u32::MAX as usize || size > u32::MAX as usize {
+        return Err(AllocError);
+    }
+    Ok(NameBytes::Shared {
+        strings: strings.clone()?,
+        start: start as u32,
+        size: size as u32,
+    })
+}
+
 fn place_of(strings: &RcSlice<u8>, start: usize, size: usize) -> Result<NameBytes, AllocError>
     ensures { IfOk result (λ p. spec.bytes_at p
         ≡ take size (drop start (rc_slice_items strings.now))) }
 {
     let bytes = first(rest(strings.as_slice(), start), size);
     if bytes.len() <= SHORT {
-        return Ok(here(bytes));
+        Ok(here(bytes))
+    } else {
+        shared(strings, start, size)
     }
-    Ok(NameBytes::Shared {
-        strings: strings.clone()?,
-        start,
-        size,
-    })
 }
 
 impl Name {
@@ -124,7 +136,7 @@ impl Name {
                 strings,
                 start,
                 size,
-            } => first(rest(strings.as_slice(), *start), *size),
+            } => first(rest(strings.as_slice(), *start as usize), *size as usize),
         }
     }
 }
