@@ -114,10 +114,7 @@ fn is_stale_program(numbered: &Numbered<'_>, stale: &[bool], row: usize) -> bool
     requires one_each { length stale.now ≡ length numbered.now.files.now }
     ensures { result ≡ spec.is_stale_program numbered.now stale.now row }
 {
-    if !stale[row] {
-        return false;
-    }
-    !numbered.files[row].is_library()
+    stale[row] && !numbered.files[row].is_library()
 }
 
 fn is_stale_library(numbered: &Numbered<'_>, stale: &[bool], row: usize) -> bool
@@ -125,10 +122,7 @@ fn is_stale_library(numbered: &Numbered<'_>, stale: &[bool], row: usize) -> bool
     requires one_each { length stale.now ≡ length numbered.now.files.now }
     ensures { result ≡ spec.is_stale_library numbered.now stale.now row }
 {
-    if !stale[row] {
-        return false;
-    }
-    numbered.files[row].is_library()
+    stale[row] && numbered.files[row].is_library()
 }
 
 /// A flag for each row, set where the walk of a stale program holds it.

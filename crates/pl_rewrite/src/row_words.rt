@@ -157,11 +157,7 @@ pub fn is_needed(needed: &Needed<'_>, row: usize) -> bool
     requires held { row < length needed.now.held.now }
     ensures { result ≡ by_rows.is_needed needed.now row }
 {
-    let made = needed.made[row];
-    if made {
-        return true;
-    }
-    needed.held[row]
+    needed.made[row] || needed.held[row]
 }
 
 fn library_row_words(

@@ -7,11 +7,11 @@ use Rattle.pl_rewrite.proofs.outcomes.is_stale_program.Goals as goal
 pub bounds-stale-row : goal.bounds-stale-row
 bounds-stale-row c = omega (arith, c.requires.row, c.requires.one_each)
 
-pub returns-then-not-stale-row : goal.returns-then-not-stale-row
-returns-then-not-stale-row c = not_program c.args.numbered.now c.args.stale.now c.args.row (sym (asked_is c.args.stale.now c.args.row _ (omega (arith, c.requires.row, c.requires.one_each))) ∙ c.if-not-stale-row.true)
-
-pub returns : goal.returns
-returns c =
-    let asked = sym (asked_is c.args.stale.now c.args.row _ (omega (arith, c.requires.row, c.requires.one_each))) ∙ c.if-not-stale-row.false in
+pub returns-then-stale-row : goal.returns-then-stale-row
+returns-then-stale-row c =
+    let asked = sym (asked_is c.args.stale.now c.args.row _ (omega (arith, c.requires.row, c.requires.one_each))) ∙ c.if-stale-row.true in
     let at = file_or c.args.numbered.now c.args.row c.index-numbered-row.result c.requires.row in
     stale_program c.args.numbered.now c.args.stale.now c.args.row _ c.is_library.result asked at c.is_library.ensures
+
+pub returns-else-stale-row : goal.returns-else-stale-row
+returns-else-stale-row c = c.if-stale-row.false ∙ not_program c.args.numbered.now c.args.stale.now c.args.row (sym (asked_is c.args.stale.now c.args.row _ (omega (arith, c.requires.row, c.requires.one_each))) ∙ c.if-stale-row.false)

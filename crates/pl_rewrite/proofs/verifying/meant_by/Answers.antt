@@ -75,5 +75,5 @@ program_file-requires-clause-program c =
 pub returns-in-None : goal.returns-in-None
 returns-in-None c = subst (IsNewProgram c.args.numbered.now c.args.row c.args.version) c.in-None.is c.in_ok-made.ensures
 
-pub returns-in-Some : goal.returns-in-Some
-returns-in-Some c = (subst (IsNewProgram c.args.numbered.now c.args.row c.args.version) c.in-Some.is c.in_ok-made.ensures).0
+pub returns : goal.returns
+returns c = (subst (IsNewProgram c.args.numbered.now c.args.row c.args.version) c.in-Some.is c.in_ok-made.ensures).0
