@@ -9,7 +9,10 @@ use crate::entries::{Entry, first_at};
 use std::alloc::{AllocError, Global};
 
 /// So many steps are gone from where a search begins.
-const STEPS: usize = 8;
+const STEPS: usize = 12;
+
+/// So many entries are in a range of the table on average.
+const OF_A_RANGE: usize = 4;
 
 /// Entries in the order of their keys, with the places where searches begin.
 #[derive(Drop)]
@@ -33,15 +36,16 @@ fn start_ranges(starts: &mut Vec<u32>, end: usize, place: usize) -> Result<(), A
     Ok(())
 }
 
-/// The places where searches begin, of as many ranges as there are entries.
+/// The places where searches begin. The ranges are few enough that the table stays small beside the entries.
 fn starts_of(alloc: Global, entries: &[Entry]) -> Result<Vec<u32>, AllocError> {
     let count = entries.len();
-    let mut starts = Vec::new(alloc);
+    let ranges = count / OF_A_RANGE + 1;
+    let mut starts = Vec::with_capacity(alloc, ranges)?;
     for place in 0..count {
-        let range = range_of(entries[place].key / 0x1_0000_0000, count);
+        let range = range_of(entries[place].key / 0x1_0000_0000, ranges);
         start_ranges(&mut starts, range.saturating_add(1), place)?;
     }
-    start_ranges(&mut starts, count, count)?;
+    start_ranges(&mut starts, ranges, count)?;
     Ok(starts)
 }
 
