@@ -3,7 +3,7 @@ use Rattle.pl_cone.specs.declared.skip.Skip.{Skip}
 use Rattle.pl_form.specs.declared.file.Marked.{Marked}
 use Rattle.pl_rewrite.specs.Outcomes.{kept_by}
 use Rattle.pl_rewrite.specs.declared.outcomes.RowOutcome.TheVariants as outcomes
-use Rattle.pl_rewrite.specs.declared.report.RowState.{RowState}
+use Rattle.pl_rewrite.specs.declared.rewriting.RowState.{RowState}
 use Rattle.pl_rewrite.proofs.outcomes.stays.Goals as goal
 
 pub returns-in-Some : goal.returns-in-Some
