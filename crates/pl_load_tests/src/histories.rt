@@ -244,7 +244,7 @@ fn skip_text(alloc: Global, cause: &Skip) -> Result<String, Fail> {
             "Refused {} {number}",
             name.as_str()
         )?,
-        cause => format!(in alloc; "{cause:?}")?,
+        _ => return Err("another cause".into()),
     })
 }
 
