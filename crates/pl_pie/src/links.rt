@@ -107,13 +107,13 @@ fn refers_badly(object: &Object, reloc: &Reloc) -> bool
 fn any_high(symbols: &[Symbol]) -> bool
     ensures { result ≡ list_any spec.is_high symbols.now }
 {
-    symbols.iter().any(|symbol| is_high(symbol))
+    symbols.iter().any(is_high)
 }
 
 fn any_lacks(symbols: &[Symbol]) -> bool
     ensures { result ≡ list_any spec.lacks_value symbols.now }
 {
-    symbols.iter().any(|symbol| lacks_value(symbol))
+    symbols.iter().any(lacks_value)
 }
 
 fn any_badly(object: &Object, relocs: &[Reloc]) -> bool

@@ -1,5 +1,5 @@
 // What is read of a program that is fixed at an address, by the object that it was.
-ghost use Rattle.std.specs.Prelude.{◌≡◌, ◌+◌, ◌<◌, ◌^◌, Ok, IfOk, length, map, if◌then◌else◌};
+ghost use Rattle.std.specs.Prelude.{◌≡◌, ◌+◌, ◌<◌, ◌^◌, Ok, IfOk, OnOk, length, map, if◌then◌else◌};
 ghost use Rattle.std.specs.List.{All};
 ghost use Rattle.law_fixed.specs.Fixed as fixed;
 ghost use Rattle.pl_base.specs.Sums.{plus};
@@ -19,6 +19,7 @@ use pl_object::tags::dynamic_memory;
 use pl_object::{Object, Reloc, loaded, ranges_of};
 use pl_sym::Symbol;
 use std::alloc::{AllocError, Global};
+use std::mem::replace;
 
 /// Where an entry is; 0 stands for none.
 #[tactic(auto, unfolding(law_fixed::specs::Fixed::fixed_entry))]
@@ -216,36 +217,24 @@ fn symbols_at(
     Ok(moved)
 }
 
-/// The object of a program at an address; its link tables are where they were in the file.
+/// Makes an object that of its program at an address; its link tables stay where they were in the file.
 #[tactic(auto, unfolding(law_fixed::specs::Fixed::fixed))]
-fn moved_object(alloc: Global, object: Object, address: u64) -> Result<Object, AllocError>
-    requires { object.span + address < 2 ^ 64 }
-    ensures { IfOk result (λ x. x ≡ fixed.fixed address object) }
+fn move_object(alloc: Global, object: &mut Object, address: u64) -> Result<(), AllocError>
+    requires { object.old.span + address < 2 ^ 64 }
+    ensures { OnOk result (object.new ≡ fixed.fixed address object.old) }
 {
-    let header = header_at(&object.header, address);
     let sections = sections_at(alloc, object.sections.as_slice(), address)?;
     let segments = segments_at(alloc, object.segments.as_slice(), address)?;
     let relocations = relocs_at(alloc, object.relocations.as_slice(), address)?;
-    let symbols = symbols_at(alloc, object.symbols, address)?;
-    Ok(Object {
-        kind: object.kind,
-        header,
-        sections: Rows::from_vec(sections),
-        entry: entry_at(object.entry, address),
-        segments: Rows::from_vec(segments),
-        needed: object.needed,
-        symbols,
-        versions: object.versions,
-        hashes: object.hashes,
-        relocations: Rows::from_vec(relocations),
-        packed: object.packed,
-        tables: object.tables,
-        tls: object.tls,
-        symbolic: object.symbolic,
-        spare: object.spare,
-        span: object.span + address,
-        align: object.align,
-    })
+    let symbols = replace(&mut object.symbols, Rows::new(alloc));
+    object.symbols = symbols_at(alloc, symbols, address)?;
+    object.header = header_at(&object.header, address);
+    object.sections = Rows::from_vec(sections);
+    object.entry = entry_at(object.entry, address);
+    object.segments = Rows::from_vec(segments);
+    object.relocations = Rows::from_vec(relocations);
+    object.span += address;
+    Ok(())
 }
 
 /// Where the link tables of an object stand in a file.
@@ -265,13 +254,20 @@ fn tables_in(alloc: Global, file: &[u8], object: &Object) -> Result<Rows<Range>,
     Ok(tables)
 }
 
-/// An object with other link tables.
-fn with_tables(object: Object, tables: Rows<Range>) -> Object
-    ensures { result ≡ record object { tables = tables } }
+/// Makes an object the one that is read of the file of its program at an address.
+fn move_in_file(
+    alloc: Global,
+    file: &[u8],
+    object: &mut Object,
+    address: u64,
+) -> Result<(), AllocError>
+    requires { spec.IsFixedAt object.old address file.now }
+    ensures { OnOk result (reads file.now ≡ Ok object.new) }
 {
-    let mut object = object;
+    move_object(alloc, object, address)?;
+    let tables = tables_in(alloc, file, object)?;
     object.tables = tables;
-    object
+    Ok(())
 }
 
 /// The object that is read of a file that `fix` made of a program at an address, by the object of that program. No acceptance clause is looked at again. It fails only for want of memory.
@@ -284,7 +280,12 @@ pub fn object_at(
     requires { spec.IsFixedAt object address file.now }
     ensures { IfOk result (λ x. reads file.now ≡ Ok x) }
 {
-    let moved = moved_object(alloc, object, address)?;
-    let tables = tables_in(alloc, file, &moved)?;
-    Ok(with_tables(moved, tables))
+    let mut object = object;
+    match move_in_file(alloc, file, &mut object, address) {
+        Ok(()) => Ok(object),
+        Err(fault) => {
+            drop(object);
+            Err(fault)
+        }
+    }
 }

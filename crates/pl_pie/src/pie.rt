@@ -84,8 +84,15 @@ pub fn is_pie(alloc: Global, bytes: &[u8]) -> Result<Option<Object>, NoMemory>
         Err(Refusal::NoMemory) => return Err(NoMemory),
         Err(Refusal::Clause { .. }) => return Ok(None),
     };
-    if !is_pie_object(alloc, bytes, &program, &object)? {
-        return Ok(None);
+    match is_pie_object(alloc, bytes, &program, &object) {
+        Ok(true) => Ok(Some(object)),
+        Ok(false) => {
+            drop(object);
+            Ok(None)
+        }
+        Err(_) => {
+            drop(object);
+            Err(NoMemory)
+        }
     }
-    Ok(Some(object))
 }

@@ -38,9 +38,16 @@ fn read_fixed(
     requires may { MayBeFixed object address }
     ensures { IfOk result (λ program. program ≡ fixed_bytes address object bytes.now) }
 {
-    let file = fix(alloc, bytes, &object, address)?;
-    let read = object_at(alloc, &file, object, address)?;
-    Ok(FixedProgram::new(file, read))
+    match fix(alloc, bytes, &object, address) {
+        Ok(file) => {
+            let read = object_at(alloc, &file, object, address)?;
+            Ok(FixedProgram::new(file, read))
+        }
+        Err(fault) => {
+            drop(object);
+            Err(fault)
+        }
+    }
 }
 
 /// The program at a policy's answer.
@@ -56,7 +63,10 @@ fn fix_at(
     ensures { IfOk result (λ p. p ≡ spec.fixed_at bytes.now object place) }
 {
     match place {
-        None => Ok(Placing::NoPlace),
+        None => {
+            drop(object);
+            Ok(Placing::NoPlace)
+        }
         Some(address) => Ok(Placing::Fixed {
             address,
             program: read_fixed(alloc, bytes, object, address)?,

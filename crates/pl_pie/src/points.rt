@@ -70,11 +70,7 @@ fn is_loaded_dynsym(section: &Section) -> bool
 fn has_loaded_symbols(object: &Object) -> bool
     ensures { result ≡ spec.has_loaded_symbols object.now }
 {
-    object
-        .sections
-        .as_slice()
-        .iter()
-        .any(|section| is_loaded_dynsym(section))
+    object.sections.as_slice().iter().any(is_loaded_dynsym)
 }
 
 fn loads_window(window: Window, segment: &Segment) -> bool

@@ -44,7 +44,8 @@ impl FixedProgram {
     pub fn into_bytes(self) -> Rows<u8>
         ensures { result ≡ self }
     {
-        let FixedProgram { bytes, .. } = self;
+        let FixedProgram { bytes, object } = self;
+        drop(object);
         Rows::from_vec(bytes)
     }
 

@@ -80,10 +80,12 @@ fn checked(
         return Ok(None);
     };
     if !fits(&object, address) {
+        drop(object);
         return Ok(None);
     }
-    let again = fixed(alloc, &bytes, &object, address)?;
-    if !are_same(again.as_slice(), file) {
+    let again = fixed(alloc, &bytes, &object, address);
+    drop(object);
+    if !are_same(again?.as_slice(), file) {
         return Ok(None);
     }
     Ok(Some(Rows::from_vec(bytes)))
@@ -101,8 +103,11 @@ pub fn unfix(alloc: Global, bytes: &[u8]) -> Result<Option<Rows<u8>>, NoMemory>
         Err(Refusal::Clause { .. }) => return Ok(None),
     };
     if !object.kind.is_program() {
+        drop(object);
         return Ok(None);
     }
-    let program = loosened(alloc, bytes, &object)?;
-    checked(alloc, page_of(&object), bytes, program)
+    let address = page_of(&object);
+    let program = loosened(alloc, bytes, &object);
+    drop(object);
+    checked(alloc, address, bytes, program?)
 }

@@ -17,14 +17,14 @@ object_at-requires c = record {
   few = c.requires.few;
   program = c.requires.object;
   may = c.requires.may;
-  is = c.deref.ensures.value ∙ c.in_ok-file.ensures;
+  is = c.deref.ensures.value ∙ c.in-Ok.ensures;
 }
 
 pub new-requires : goal.new-requires
 new-requires c = record {
-  read = ap reads (sym c.deref.ensures.value) ∙ c.in_ok-read.ensures;
-  bare = ap marked_in c.in_ok-file.ensures ∙ made_bare c.args.bytes.now c.args.object c.args.address c.requires.object c.requires.may;
+  read = ap reads (sym c.deref.ensures.value) ∙ c.in_ok-read-in-Ok.ensures;
+  bare = ap marked_in c.in-Ok.ensures ∙ made_bare c.args.bytes.now c.args.object c.args.address c.requires.object c.requires.may;
 }
 
-pub returns : goal.returns
-returns c = c.new.ensures ∙ c.in_ok-file.ensures
+pub returns-in_ok-read-in-Ok : goal.returns-in_ok-read-in-Ok
+returns-in_ok-read-in-Ok c = c.new.ensures ∙ c.in-Ok.ensures
