@@ -4,7 +4,7 @@ ghost use Rattle.pl_loader.specs.Given as spec;
 
 use pl_form::bears_mark;
 use pl_object::Object;
-use pl_pie::FixedProgram;
+use pl_pie::{FixedParts, FixedProgram};
 use std::alloc::{AllocError, Global};
 use std::marker::Model;
 
@@ -61,11 +61,21 @@ impl GivenFile {
         ensures { IfOk result (λ file. file ≡ program) }
     {
         let parts = program.into_parts();
-        let marked = bears_mark(alloc, parts.bytes.as_slice())?;
-        if marked {
-            return Ok(GivenFile::new(parts.bytes));
+        let FixedParts { bytes, object } = parts;
+        match bears_mark(alloc, bytes.as_slice()) {
+            Ok(marked) => {
+                if marked {
+                    drop(object);
+                    Ok(GivenFile::new(bytes))
+                } else {
+                    Ok(GivenFile::known(bytes, object))
+                }
+            }
+            Err(fault) => {
+                drop(object);
+                Err(fault)
+            }
         }
-        Ok(GivenFile::known(parts.bytes, parts.object))
     }
 
     /// Its bytes, with the object that is read of them where that is known. It takes no memory.

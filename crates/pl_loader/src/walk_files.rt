@@ -122,7 +122,9 @@ fn loadable(alloc: Global, loaded: &str, file: ObjectFile) -> Result<ObjectFile,
     ensures loadable { IfOk result (IsLoadable loaded.now) }
 {
     if file.name.as_str() == loaded && file.object.kind.is_library() {
-        return Err(LoadFault::NotProgram(Text::copy_of(alloc, file.name.as_str())?));
+        let name = Text::copy_of(alloc, file.name.as_str());
+        drop(file);
+        return Err(LoadFault::NotProgram(name?));
     }
     Ok(file)
 }
@@ -176,10 +178,20 @@ impl WalkFiles {
             (spec.entered self.old file)) }
         ensures unchanged { OnErr result (self.new ≡ self.old) }
     {
-        self.files.reserve(1)?;
-        self.order.give(alloc, &file.object)?;
-        self.files.push(file).unwrap();
-        Ok(())
+        if self.files.reserve(1).is_err() {
+            drop(file);
+            return Err(LoadFault::NoMemory);
+        }
+        match self.order.give(alloc, &file.object) {
+            Ok(()) => {
+                self.files.push(file).unwrap();
+                Ok(())
+            }
+            Err(fault) => {
+                drop(file);
+                Err(LoadFault::from(fault))
+            }
+        }
     }
 
     /// Gives the wanted name its file, or tells that there is none.
@@ -192,9 +204,16 @@ impl WalkFiles {
         ensures unchanged { OnErr result (self.new ≡ self.old) }
     {
         let Some(wanted) = self.wants() else {
+            drop(file);
             return Ok(());
         };
-        let name = Text::copy_of(alloc, wanted)?;
+        let name = match Text::copy_of(alloc, wanted) {
+            Ok(name) => name,
+            Err(_) => {
+                drop(file);
+                return Err(LoadFault::NoMemory);
+            }
+        };
         let Some(given) = file else {
             return Err(LoadFault::NotThere(name));
         };

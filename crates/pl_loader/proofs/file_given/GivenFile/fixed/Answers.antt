@@ -11,5 +11,5 @@ pub known-requires : goal.known-requires
 known-requires c =
     let r = c.into_parts-parts.ensures.read in
     let same = sym c.into_parts-parts.ensures.bytes in
-    let plain : has_mark c.args.program ≡ false = ap has_mark (same ∙ sym c.as_slice.ensures.value) ∙ sym c.in_ok-marked.ensures ∙ c.if-marked.false in
+    let plain : has_mark c.args.program ≡ false = ap has_mark (same ∙ sym c.as_slice.ensures.value) ∙ sym c.in-Ok.ensures ∙ c.if-marked.false in
     subst (λ (xs : List ℕ). IsReadPlain xs c.into_parts-parts.result.object) same (plain_read c.args.program c.into_parts-parts.result.object r.read r.bare plain)
