@@ -37,6 +37,12 @@ pub fn row_of(files: &[Taken], name: &str) -> Option<usize>
     None
 }
 
+fn causes_of(table: RunTable<'_>) -> Vec<Option<Skip>>
+    ensures { result.items ≡ table.entry.causes }
+{
+    table.causes.into_vec()
+}
+
 /// Whether a name of a folder may be prelinked: it is a program or library whose walk has no refusal, each member of its walk has a form, and, where it is a program, thread-local storage has offsets and each relocation has a value. Else the first cause, in this order, those of one kind in the order of the walk. That a program's form may be too large is not looked at.
 ///
 /// `take_file` gave the files under a region, and no name stands twice.
@@ -49,8 +55,7 @@ pub fn prelinkable(alloc: Global, files: &[Taken], name: &str) -> Result<(), Ski
         return Err(Skip::NotThere(Text::copy_of(alloc, name)?));
     };
     let table = RunTable::of(alloc, files)?;
-    let RunTable { causes, .. } = table;
-    let mut causes = causes.into_vec();
+    let mut causes = causes_of(table);
     match causes.remove(row) {
         None => Ok(()),
         Some(skip) => Err(skip),

@@ -131,7 +131,7 @@ fn greatest_of_files(last: u32, files: &[Taken]) -> u32
 fn any_stale(stale: &[bool]) -> bool
     ensures { result ≡ list_any (λ b. b) stale.now }
 {
-    stale.iter().any(|flag| *flag)
+    stale.contains(&true)
 }
 
 /// The stamp that the stale names of a run at a moment get: the greater of the moment and one more than the greatest of `last`, the stamps of all marks and those in their lists. It is `last` where no name is stale. `StampsSpent` comes exactly where one is and that greatest stamp is the last that there is.

@@ -1,5 +1,5 @@
 // Which names may be prelinked, what their relocations find, and which of a library's give the same in every walk.
-ghost use Rattle.std.specs.Prelude.{◌≡◌, ◌<◌, [], Some, true, IfOk, OnOk, length};
+ghost use Rattle.std.specs.Prelude.{◌≡◌, ◌<◌, [], Some, true, false, IfOk, OnOk, length};
 ghost use Rattle.std.specs.Bool.{OnTrue};
 ghost use Rattle.pl_base.specs.Answers.{Answers};
 ghost use Rattle.pl_scope.specs.Finds.{finds};
@@ -16,6 +16,7 @@ ghost use Rattle.pl_cone.specs.Table as table;
 ghost use Rattle.pl_cone.specs.Taken.{WereTaken};
 
 use crate::scopes::{WalkLinking, modules_of, sought};
+use crate::skip::unless_memory;
 use crate::{Skip, Taken, WalkScope};
 use pl_base::{Rows, Text};
 use pl_elf::constants::{
@@ -189,6 +190,14 @@ fn program_link(
     linking.linked(alloc, walk, links)
 }
 
+fn put_cause(cause: &mut Option<Skip>, skip: Skip) -> Result<(), NoMemory>
+    ensures put { OnOk result (cause.new ≡ Some skip) }
+    ensures told { OnOk result (skip_is_memory skip ≡ false) }
+{
+    drop(cause.replace(unless_memory(skip)?));
+    Ok(())
+}
+
 impl WalkedFiles<'_> {
     /// What the own relocations of a row's file find; or the first cause why its name may not be prelinked. For a program `links` has those of all libraries that may be prelinked.
     fn link_of(&self, alloc: Global, links: &[Link], row: usize) -> Result<Link, Skip>
@@ -218,8 +227,7 @@ impl WalkedFiles<'_> {
         }
         match self.link_of(alloc, &linked.links, row) {
             Ok(link) => linked.links[row] = link,
-            Err(Skip::NoMemory) => return Err(NoMemory),
-            Err(skip) => linked.causes[row] = Some(skip),
+            Err(skip) => put_cause(&mut linked.causes[row], skip)?,
         }
         Ok(())
     }

@@ -88,15 +88,12 @@ fn want_of(alloc: Global, table: &RunTable<'_>, row: usize) -> Result<Option<Wan
 fn add_want(wanting: &mut Wanting, want: Option<Want>) -> Result<(), NoMemory>
     ensures { spec.AddsWant want wanting.old wanting.new result }
 {
-    let Some(want) = want else {
-        wanting.positions.push(None)?;
-        return Ok(());
-    };
     if wanting.wants.len() >= u32::MAX as usize {
         return Err(NoMemory);
     }
-    wanting.positions.push(Some(wanting.wants.len() as u32))?;
-    wanting.wants.push(want)?;
+    let position = want.is_some().then_some(wanting.wants.len() as u32);
+    wanting.positions.push(position)?;
+    wanting.wants.push_some(want)?;
     Ok(())
 }
 

@@ -46,22 +46,12 @@ fn scope_of<'f>(alloc: Global, files: &'f [Taken], rows: &[u32]) -> Result<Scope
     Ok(Scope::new(members))
 }
 
-fn no_positions(alloc: Global, count: usize) -> Result<Vec<Option<u32>>, AllocError>
-    ensures { IfOk result (λ v. v.items ≡ replicate count None) }
-{
-    let mut positions = Vec::new(alloc);
-    for _row in 0..count {
-        positions.push(None)?;
-    }
-    Ok(positions)
-}
-
 fn positions_of(alloc: Global, count: usize, rows: &[u32]) -> Result<Vec<Option<u32>>, AllocError>
     requires within { table.AreBelow count rows.now }
     requires few { length rows.now ≤ 256 }
     ensures { IfOk result (λ v. v.items ≡ table.positions_of count rows.now) }
 {
-    let mut positions = no_positions(alloc, count)?;
+    let mut positions = vec![in alloc; None; count]?;
     for member in 0..rows.len() {
         positions[rows[member] as usize] = Some(member as u32);
     }

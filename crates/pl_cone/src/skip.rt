@@ -1,5 +1,6 @@
 // Why a name is not prelinked, and why a run has no stamp or no plan.
-ghost use Rattle.std.specs.Prelude.{◌≡◌};
+ghost use Rattle.std.specs.Prelude.{◌≡◌, false, IfOk, OnOk};
+ghost use Rattle.pl_cone.specs.Skips.{skip_is_memory};
 ghost use Rattle.pl_cone.specs.declared.skip.ConeFault.TheVariants as stops;
 ghost use Rattle.pl_cone.specs.declared.skip.PlanningFault.TheVariants as faults;
 ghost use Rattle.pl_cone.specs.declared.skip.Skip.TheVariants as skips;
@@ -97,8 +98,17 @@ impl From<TlsFault> for Skip {
     }
 }
 
+/// A cause that is no want of memory.
+pub fn unless_memory(skip: Skip) -> Result<Skip, NoMemory>
+    ensures same { IfOk result (λ told. told ≡ skip) }
+    ensures told { OnOk result (skip_is_memory skip ≡ false) }
+{
+    let is_memory = matches!(skip, Skip::NoMemory);
+    (!is_memory).then_some(skip).ok_or(NoMemory)
+}
+
 /// Why a run has no stamp.
-#[derive(Clone, Copy, Debug, PartialEq, Eq)]
+#[derive(Clone, Copy)]
 pub enum ConeFault {
     /// The greatest stamp is the last that there is, 2^32 - 1, and a name would get a later one.
     StampsSpent(u32),

@@ -30,15 +30,6 @@ pub struct Taken {
     pub fault: Option<u32>,
 }
 
-fn mark_of(entry: &Entry) -> Option<&Marked>
-    ensures { option_map (λ m. m.now) result ≡ spec.marked_by entry.now }
-{
-    match entry {
-        Entry::There(File::Marked(marked)) => Some(marked),
-        Entry::There(File::Plain(_)) | Entry::BadMark | Entry::Refused { .. } => None,
-    }
-}
-
 impl Taken {
     /// The object of its original, if it has one.
     pub fn object(&self) -> Option<&Object>
@@ -57,7 +48,10 @@ impl Taken {
         ensures read { spec.HasItsEntry self.now → option_map (λ m. m.now) result
             ≡ marked_in self.now.bytes }
     {
-        mark_of(&self.entry)
+        match &self.entry {
+            Entry::There(File::Marked(marked)) => Some(marked),
+            Entry::There(File::Plain(_)) | Entry::BadMark | Entry::Refused { .. } => None,
+        }
     }
 
     /// Its original; any file but a prelinked one is its own.

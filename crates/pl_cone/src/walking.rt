@@ -8,6 +8,7 @@ ghost use Rattle.pl_cone.specs.Needs as spec;
 ghost use Rattle.pl_cone.specs.Taken.{WereTaken};
 
 use crate::needs::{Needs, needs_of};
+use crate::skip::unless_memory;
 use crate::{Skip, Taken};
 use pl_base::{Rows, Text};
 use pl_form::{Entry, File};
@@ -190,17 +191,12 @@ fn add_walk(
 ) -> Result<(), NoMemory>
     ensures { spec.AddsWalk walk walks.old walks.new result }
 {
-    match walk {
-        Ok(rows) => {
-            walks.walks.push(rows)?;
-            walks.causes.push(None)?;
-        }
-        Err(Skip::NoMemory) => return Err(NoMemory),
-        Err(skip) => {
-            walks.walks.push(Rows::new(alloc))?;
-            walks.causes.push(Some(skip))?;
-        }
-    }
+    let (rows, cause) = match walk {
+        Ok(rows) => (rows, None),
+        Err(skip) => (Rows::new(alloc), Some(unless_memory(skip)?)),
+    };
+    walks.causes.push(cause)?;
+    walks.walks.push(rows)?;
     Ok(())
 }
 

@@ -23,19 +23,19 @@ pub remove-requires : goal.remove-requires
 remove-requires c =
     let file = c.in-Some.ensures in
     let number = row_number c.requires.0 c.in_ok-table.table c.args.files.now c.in-Some.row file.0 c.requires.1 c.in_ok-table.ensures.files c.in_ok-table.ensures.table file.1 in
-    let size = ap length c.into_vec-causes.ensures in
-    omega (arith, size, number, c.into_vec-causes.result.ok)
+    let size = ap length c.causes_of-causes.ensures in
+    omega (arith, size, number, c.causes_of-causes.result.ok)
 
 pub returns-in-None : goal.returns-in-None
 returns-in-None c = λ region taken.
     let file = c.in-Some.ensures in
     let number = row_number c.requires.0 c.in_ok-table.table c.args.files.now c.in-Some.row file.0 c.requires.1 c.in_ok-table.ensures.files c.in_ok-table.ensures.table file.1 in
     let meant = named_skip region c.in_ok-table.table c.args.files.now c.in-Some.row file.0 c.args.name.now taken c.in_ok-table.ensures.files c.in_ok-table.ensures.table file.1 file.2 in
-    answers_meant skip_is_memory (Ok tt) (skip_of (files_in c.args.files.now) region c.args.name.now) (meant ∙ sym (taken_out c.into_vec-causes.result.items c.in_ok-table.table.causes c.in-Some.row None c.into_vec-causes.ensures number c.in-None.ensures.value))
+    answers_meant skip_is_memory (Ok tt) (skip_of (files_in c.args.files.now) region c.args.name.now) (meant ∙ sym (taken_out c.causes_of-causes.result.items c.in_ok-table.table.causes c.in-Some.row None c.causes_of-causes.ensures number c.in-None.ensures.value))
 
 pub returns : goal.returns
 returns c = λ region taken.
     let file = c.in-Some.ensures in
     let number = row_number c.requires.0 c.in_ok-table.table c.args.files.now c.in-Some.row file.0 c.requires.1 c.in_ok-table.ensures.files c.in_ok-table.ensures.table file.1 in
     let meant = named_skip region c.in_ok-table.table c.args.files.now c.in-Some.row file.0 c.args.name.now taken c.in_ok-table.ensures.files c.in_ok-table.ensures.table file.1 file.2 in
-    answers_meant skip_is_memory (Err c.in-Some-remove.skip) (skip_of (files_in c.args.files.now) region c.args.name.now) (meant ∙ sym (taken_out c.into_vec-causes.result.items c.in_ok-table.table.causes c.in-Some.row (Some c.in-Some-remove.skip) c.into_vec-causes.ensures number c.in-Some-remove.ensures.value))
+    answers_meant skip_is_memory (Err c.in-Some-remove.skip) (skip_of (files_in c.args.files.now) region c.args.name.now) (meant ∙ sym (taken_out c.causes_of-causes.result.items c.in_ok-table.table.causes c.in-Some.row (Some c.in-Some-remove.skip) c.causes_of-causes.ensures number c.in-Some-remove.ensures.value))

@@ -3,13 +3,35 @@ use Rattle.std.specs.Prelude.{◌==◌}
 use Rattle.std.specs.List.{list_any}
 use Rattle.std.proofs.lemmas.Bool.{eq-eqb, ne_eqb}
 use Rattle.std.proofs.lemmas.Option.{slice_get_within}
-use Rattle.pl_cone.specs.Needs.{name_of}
+use Rattle.std.proofs.lemmas.List.{take_all}
+use Rattle.pl_cone.specs.Needs.{IsMore, name_of}
 use Rattle.std.specs.Vec.{with_item}
 use Rattle.pl_cone.specs.declared.walking.NumberWalk.{NumberWalk}
 use Rattle.pl_cone.specs.declared.skip.Skip.TheVariants.{TooMany}
 use Rattle.pl_cone.proofs.UnderLaws.{max_is}
 use Rattle.pl_cone.proofs.WalkingLaws.{added_full, added_new, added_seen, seen_is, walking_more, walking_same}
 use Rattle.pl_cone.proofs.walking.NumberWalk.add.Goals as goal
+
+same_walk : (w : NumberWalk) → IsMore w w
+same_walk w = record { walk = refl; front = take_all (length w.numbers.items) w.numbers.items (omega arith) }
+
+pub returns-then-index-self-clause-walking : goal.returns-then-index-self-clause-walking
+returns-then-index-self-clause-walking c = c.requires.walking.walking
+
+pub returns-then-index-self-clause-more : goal.returns-then-index-self-clause-more
+returns-then-index-self-clause-more c = same_walk c.args.self.now
+
+pub returns-then-len-ge-MAX_MEMBERS-clause-walking : goal.returns-then-len-ge-MAX_MEMBERS-clause-walking
+returns-then-len-ge-MAX_MEMBERS-clause-walking c = c.requires.walking.walking
+
+pub returns-then-len-ge-MAX_MEMBERS-clause-more : goal.returns-then-len-ge-MAX_MEMBERS-clause-more
+returns-then-len-ge-MAX_MEMBERS-clause-more c = same_walk c.args.self.now
+
+pub returns-in_err-name-clause-walking : goal.returns-in_err-name-clause-walking
+returns-in_err-name-clause-walking c = c.requires.walking.walking
+
+pub returns-in_err-name-clause-more : goal.returns-in_err-name-clause-more
+returns-in_err-name-clause-more c = same_walk c.args.self.now
 
 pub returns-then-index-self-clause-names : goal.returns-then-index-self-clause-names
 returns-then-index-self-clause-names c =
