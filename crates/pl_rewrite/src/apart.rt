@@ -11,7 +11,6 @@ ghost use Rattle.pl_rewrite.specs.Sources.{AreSources};
 use crate::numbers::Numbered;
 use pl_base::{end, is_valid_name};
 use pl_elf::constants::ADDRESS_LIMIT;
-use pl_elf::{Segment, loads};
 use pl_object::{Object, Window, any_share};
 use std::alloc::{AllocError, Global};
 
@@ -38,26 +37,18 @@ fn numbers_fit(object: &Object, slot: u64, stamp: u32) -> bool
     is_at_zero(slot, stamp)
 }
 
-fn has_numbers(numbered: &Numbered<'_>, row: usize) -> bool
-    requires numbered { spec.IsNumbered numbered.now }
-    requires row { row < length numbered.now.files.now }
-    requires aligned { spec.IsAligned numbered.now row }
-    ensures { result ≡ spec.has_numbers numbered.now row }
-{
-    match numbered.files[row].object() {
-        None => false,
-        Some(object) => numbers_fit(object, numbered.places[row], numbered.stamps[row]),
-    }
-}
-
 fn all_have_numbers(numbered: &Numbered<'_>, walk: &[u32]) -> bool
     requires numbered { spec.IsNumbered numbered.now }
     requires rows { spec.AreRowsOf numbered.now.files.now walk.now }
     requires aligned { All (spec.IsAligned numbered.now) walk.now }
     ensures { result ≡ list_all (spec.has_numbers numbered.now) walk.now }
 {
-    for row in walk {
-        if !has_numbers(numbered, *row as usize) {
+    for member in walk {
+        let row = *member as usize;
+        let Some(object) = numbered.files[row].object() else {
+            return false;
+        };
+        if !numbers_fit(object, numbered.places[row], numbered.stamps[row]) {
             return false;
         }
     }
@@ -80,30 +71,20 @@ fn all_have_names(numbered: &Numbered<'_>, others: &[u32]) -> bool
     true
 }
 
-fn load_window(segment: &Segment) -> Window
-    ensures { result ≡ firm.load_window segment.now }
-{
-    Window::new(u128::from(segment.vaddr), segment.memsz)
-}
-
-fn add_loads(alloc: Global, windows: &mut Vec<Window>, object: &Object) -> Result<(), AllocError>
+fn add_loads(windows: &mut Vec<Window>, object: &Object) -> Result<(), AllocError>
     ensures { OnOk result (windows.new.items
         ≡ windows.old.items ++ map firm.load_window (loads object.now.segments)) }
 {
-    let segments = loads(alloc, object.segments.as_slice())?;
-    for segment in &segments {
-        windows.push(load_window(segment))?;
+    for segment in object.segments.as_slice() {
+        if segment.is_load() {
+            windows.push(Window::new(u128::from(segment.vaddr), segment.memsz))?;
+        }
     }
     Ok(())
 }
 
 /// Adds what a file takes up: a library the addresses from its slot to its end, a program those of its PT_LOADs.
-fn add_windows(
-    alloc: Global,
-    all: &mut Vec<Window>,
-    numbered: &Numbered<'_>,
-    row: usize,
-) -> Result<(), AllocError>
+fn add_windows(all: &mut Vec<Window>, numbered: &Numbered<'_>, row: usize) -> Result<(), AllocError>
     requires numbered { spec.IsNumbered numbered.now }
     requires row { row < length numbered.now.files.now }
     ensures { OnOk result (all.new.items ≡ all.old.items ++ spec.windows_of numbered.now row) }
@@ -112,22 +93,10 @@ fn add_windows(
         return Ok(());
     };
     if !object.kind.is_library() {
-        return add_loads(alloc, all, object);
+        return add_loads(all, object);
     }
     all.push(Window::new(u128::from(numbered.places[row]), object.span))?;
     Ok(())
-}
-
-fn windows(alloc: Global, numbered: &Numbered<'_>, walk: &[u32]) -> Result<Vec<Window>, AllocError>
-    requires numbered { spec.IsNumbered numbered.now }
-    requires rows { spec.AreRowsOf numbered.now.files.now walk.now }
-    ensures { IfOk result (λ v. v.items ≡ flat_map (spec.windows_of numbered.now) walk.now) }
-{
-    let mut windows = Vec::new(alloc);
-    for row in walk {
-        add_windows(alloc, &mut windows, numbered, *row as usize)?;
-    }
-    Ok(windows)
 }
 
 /// Whether no two files have an address in common. The time grows as `n log n`.
@@ -137,7 +106,11 @@ fn are_apart(alloc: Global, numbered: &Numbered<'_>, walk: &[u32]) -> Result<boo
     ensures { IfOk result (λ b. b ≡ not (windows_by.any_share
         (flat_map (spec.windows_of numbered.now) walk.now))) }
 {
-    Ok(!any_share(windows(alloc, numbered, walk)?))
+    let mut windows = Vec::new(alloc);
+    for row in walk {
+        add_windows(&mut windows, numbered, *row as usize)?;
+    }
+    Ok(!any_share(windows))
 }
 
 /// Whether the members of the walk of a row can be prelinked together: their numbers are such as they may have, what they take up has no address in common, and the names of those after the first are valid.

@@ -180,8 +180,7 @@ fn add_member(
     if ranges.is_empty() {
         return Ok(());
     }
-    add_near(linking, member, relocs, ranges, &mut found_rows.near)?;
-    Ok(())
+    add_near(linking, member, relocs, ranges, &mut found_rows.near)
 }
 
 fn sort_rows(rows: &mut Vec<ConflictRow>)
@@ -194,10 +193,23 @@ fn sort_rows(rows: &mut Vec<ConflictRow>)
 fn own_near(alloc: Global, own: &[Meaning], ranges: &Ranges) -> Result<Vec<Meaning>, AllocError>
     ensures { IfOk result (λ v. v.items ≡ filter (spec.is_near_word ranges.now) own.now) }
 {
-    own.iter()
-        .copied()
-        .filter(|meaning| is_near_word(ranges, meaning))
-        .collect(alloc)
+    let mut near = Vec::new(alloc);
+    for meaning in own {
+        if is_near_word(ranges, meaning) {
+            near.push(*meaning)?;
+        }
+    }
+    Ok(near)
+}
+
+/// The words that are held of a member, by the row of the walk.
+fn held_at<'t>(walk: &[u32], row_words: &'t [RowWords], member: u32) -> &'t [HeldWord]
+    requires member { member < length walk.now }
+    requires rows { All (λ r. r < length row_words.now) walk.now }
+    ensures { result.now ≡ spec.told_at walk.now row_words.now member }
+{
+    let row = walk[member as usize];
+    row_words[row as usize].held.as_slice()
 }
 
 /// The conflict rows of a program by the remaining relocations of its libraries, ascending by address, and the words of the walk that are given in the ranges from which the program copies, in the order of the relocations. `own` is what the program's own relocations give; `row_words` has for the library of each row of the walk its remaining relocations, with the words that its file holds at their places. Else the first relocation of the walk that has no value, or NoMemory. The rows are those that `conflicts` of pl_conflict gives.
@@ -216,13 +228,13 @@ pub fn remaining_rows(
     ensures refused { IfErr result (spec.RefusesAll linking.now) }
 {
     let ranges = Ranges::of(alloc, own)?;
+    let near = own_near(alloc, own, &ranges)?;
     let mut found_rows = RemainingRows {
         rows: Vec::new(alloc),
-        near: own_near(alloc, own, &ranges)?,
+        near,
     };
     for member in 1..linking.scope.count() {
-        let row = walk[member as usize] as usize;
-        let held = row_words[row].held.as_slice();
+        let held = held_at(walk, row_words, member);
         add_member(linking, member, held, &ranges, &mut found_rows)?;
     }
     sort_rows(&mut found_rows.rows);

@@ -1,13 +1,13 @@
 // The bytes at the places of a program: its own words, and what its copies read.
 ghost use Rattle.std.specs.Prelude.{◌≡◌, ◌<◌, [], ◌∷◌, IfOk, length};
-ghost use Rattle.pl_base.specs.Bytes.{bytes64};
 ghost use Rattle.pl_form.specs.Words as form;
 ghost use Rattle.pl_image.specs.Image.{AreLoaded};
 ghost use Rattle.pl_rewrite.specs.Copies as spec;
 ghost use Rattle.pl_rewrite.specs.Rows as rows;
+ghost use Rattle.pl_value.specs.Linked as linked;
 
 use crate::numbers::Numbered;
-use pl_base::{Rows, push64};
+use pl_base::Rows;
 use pl_elf::constants::R_X86_64_NONE;
 use pl_form::Fill;
 use pl_image::{LoadedObject, Mask, Patches, load_object, read_loaded};
@@ -42,7 +42,7 @@ fn loaded_at<'f>(
     let Some(object) = taken.object() else {
         return Ok(loads_nothing(alloc));
     };
-    Ok(load_object(alloc, object, taken.original(), numbered.places[row])?)
+    load_object(alloc, object, taken.original(), numbered.places[row])
 }
 
 fn members_loaded<'f>(
@@ -68,13 +68,11 @@ fn one_of<'t>(loaded: &'t [LoadedObject<'t>], member: u32) -> &'t [LoadedObject<
     &loaded[index..index + 1]
 }
 
-fn put_first(alloc: Global, bytes: &[u8], first: &[u8]) -> Result<Vec<u8>, AllocError>
-    ensures { IfOk result (λ v. spec.PutsFirst first.now bytes.now v.items) }
+fn put_first(bytes: &mut [u8], first: &[u8])
+    ensures { spec.PutsFirst first.now bytes.old bytes.new }
 {
     let count = first.len().min(bytes.len());
-    let mut all = Vec::from_slice(alloc, &first[..count])?;
-    all.extend_from_slice(&bytes[count..])?;
-    Ok(all)
+    bytes[..count].copy_from_slice(&first[..count]);
 }
 
 #[derive(Clone, Copy)]
@@ -95,14 +93,6 @@ fn standing_at(alloc: Global, filling: &Filling<'_>, reloc: &Reloc) -> Result<Ve
     read_loaded(alloc, loaded, reloc.address, reloc.width)
 }
 
-fn word_bytes(alloc: Global, word: u64) -> Result<Vec<u8>, AllocError>
-    ensures { IfOk result (λ v. v.items ≡ bytes64 word) }
-{
-    let mut bytes = Vec::new(alloc);
-    push64(&mut bytes, word)?;
-    Ok(bytes)
-}
-
 /// The bytes of the program's original at the place of a relocation, with what it copies over the first of them.
 fn copied_over(
     alloc: Global,
@@ -116,10 +106,11 @@ fn copied_over(
     requires member { member < length filling.now.walk.now }
     ensures { IfOk result (λ v. spec.FillsCopy filling.now reloc.now member from bytes v.items) }
 {
-    let standing = standing_at(alloc, filling, reloc)?;
+    let mut standing = standing_at(alloc, filling, reloc)?;
     let loaded = one_of(filling.loaded, member);
     let first = filling.near.read(alloc, loaded, from, bytes)?;
-    put_first(alloc, standing.as_slice(), first.as_slice())
+    put_first(&mut standing, first.as_slice());
+    Ok(standing)
 }
 
 /// The bytes at the place of a relocation of the program: the word that it gives; or those of the original, where it gives nothing; or what it copies, and behind that the original's.
@@ -134,7 +125,7 @@ fn bytes_at(
     ensures { IfOk result (λ v. spec.FillsBy filling.now reloc.now meaning.now.word v.items) }
 {
     match meaning.word {
-        Word::Put(word) => word_bytes(alloc, word),
+        Word::Put(word) => Vec::from_slice(alloc, &word.to_le_bytes()),
         Word::Nothing => standing_at(alloc, filling, reloc),
         Word::Copy {
             member,
@@ -176,6 +167,13 @@ fn fills_of(
     Ok(fills)
 }
 
+fn patches_of(alloc: Global, near: &[Meaning]) -> Result<Patches, AllocError>
+    ensures { IfOk result (λ p. p ≡ linked.words near.now) }
+{
+    let words = words(alloc, near)?;
+    Patches::new(alloc, words)
+}
+
 /// The bytes at the places of a program, as its scope makes them: a fill for each of its own relocations that is not NONE, in their order. `walk` has the rows of its walk, it first, `near` the words of the walk in the ranges from which it copies, and `meanings` what its relocations give. The time grows as `n log n`, and as what is copied.
 pub fn program_fills(
     alloc: Global,
@@ -191,7 +189,7 @@ pub fn program_fills(
     ensures { IfOk result (λ v. spec.AreFillsNear numbered.now walk.now near.now relocs.now
         meanings.now v.items) }
 {
-    let indexed = Patches::new(alloc, words(alloc, near)?)?;
+    let indexed = patches_of(alloc, near)?;
     let loaded = members_loaded(alloc, numbered, walk)?;
     let filling = Filling {
         numbered,

@@ -101,7 +101,10 @@ fn outcome_for(
     ensures { IfOk result (spec.IsOutcomeFor taken.now cause made) }
 {
     match made {
-        Some(outcome) => Ok(outcome),
+        Some(outcome) => {
+            drop(cause);
+            Ok(outcome)
+        }
         None => match cause {
             Some(cause) => Ok(RowOutcome::Original(cause)),
             None => stays(alloc, taken),
@@ -308,6 +311,7 @@ pub fn outcomes(
         stamps: plan.stamps.as_slice(),
         digests: digests.as_slice(),
     };
-    let made = made_of(alloc, &numbered, links, stale)?;
-    all_outcomes(alloc, files, causes, made)
+    let made = made_of(alloc, &numbered, links, stale);
+    drop(index);
+    all_outcomes(alloc, files, causes, made?)
 }

@@ -43,15 +43,15 @@ fn givens_of(alloc: Global, rows: &[Option<u64>]) -> Result<Vec<bool>, AllocErro
     rows.iter().map(|row| row.is_some()).collect(alloc)
 }
 
-#[tactic(auto, unfolding(crate::specs::Words::words_by))]
 fn words_from(alloc: Global, words: &[u64], given: &[bool]) -> Result<Vec<Option<u64>>, AllocError>
     ensures { IfOk result (λ v. v.items ≡ spec.words_by words.now given.now) }
 {
-    words
-        .iter()
-        .zip(given)
-        .map(|(word, given)| word_by(*word, *given))
-        .collect(alloc)
+    let count = words.len().min(given.len());
+    let mut rows = Vec::with_capacity(alloc, count)?;
+    for index in 0..count {
+        rows.push(word_by(words[index], given[index]))?;
+    }
+    Ok(rows)
 }
 
 impl OwnWords {

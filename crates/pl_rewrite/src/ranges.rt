@@ -8,40 +8,26 @@ use pl_value::{Meaning, Word};
 use std::alloc::{AllocError, Global};
 use std::marker::Model;
 
-fn range_of(word: &Word) -> Option<Range>
-    ensures { result ≡ spec.range_of word.now }
-{
-    match word {
-        Word::Copy { from, bytes, .. } => Some(Range {
-            start: *from,
-            end: from.saturating_add(*bytes),
-        }),
-        _ => None,
-    }
-}
-
 /// The addresses from which relocations copy, a range for each that does, in their order.
-#[tactic(auto, unfolding(crate::specs::Ranges::ranges_of))]
 fn given_ranges(alloc: Global, meanings: &[Meaning]) -> Result<Vec<Range>, AllocError>
     ensures { IfOk result (λ v. v.items ≡ spec.ranges_of meanings.now) }
 {
-    meanings
-        .iter()
-        .filter_map(|meaning| range_of(&meaning.word))
-        .collect(alloc)
+    let mut ranges = Vec::new(alloc);
+    for meaning in meanings {
+        if let Word::Copy { from, bytes, .. } = meaning.word {
+            ranges.push(Range {
+                start: from,
+                end: from.saturating_add(bytes),
+            })?;
+        }
+    }
+    Ok(ranges)
 }
 
 fn touches(range: &Range, start: u64) -> bool
     ensures { result ≡ spec.touches start range.now }
 {
     range.start < range.end && start < range.end && u128::from(range.start) < u128::from(start) + 8
-}
-
-/// Whether a word from an address on has an address of one of the ranges. The time grows as their number.
-fn touches_one(ranges: &[Range], start: u64) -> bool
-    ensures { result ≡ spec.is_near ranges.now start }
-{
-    ranges.iter().any(|range| touches(range, start))
 }
 
 /// The addresses from which relocations copy. Contracts see them as a range for each relocation that does, in their order.
@@ -87,7 +73,11 @@ impl Ranges {
     pub fn is_near(&self, start: u64) -> bool
         ensures { result ≡ spec.is_near self.now start }
     {
-        let near = near(&self.rising, start, 8);
-        touches_one(near, start)
+        for range in near(&self.rising, start, 8) {
+            if touches(range, start) {
+                return true;
+            }
+        }
+        false
     }
 }

@@ -1,5 +1,5 @@
 // A whole run that prelinks everything: what is made of files by their outcomes, each of which is let go in its turn.
-ghost use Rattle.std.specs.Prelude.{◌≡◌, IfOk, Some, if◌then◌else◌};
+ghost use Rattle.std.specs.Prelude.{◌≡◌, IfOk, OnOk, Some, if◌then◌else◌};
 ghost use Rattle.std.specs.List.{All};
 ghost use Rattle.pl_base.specs.Answers.{Answers};
 ghost use Rattle.pl_cone.specs.Faulted.{is_memory};
@@ -9,7 +9,7 @@ ghost use Rattle.pl_rewrite.specs.Outcomes as told;
 ghost use Rattle.pl_rewrite.specs.Rewriting as spec;
 
 use crate::library::storable_library;
-use crate::outcomes::{NewLibrary, RowOutcome, outcomes, too_large};
+use crate::outcomes::{NewLibrary, NewProgram, RowOutcome, outcomes, too_large};
 use pl_base::{Rows, Text};
 use pl_cache::Cache;
 use pl_cone::{Asked, PlanningFault, RowPlan, RunTable, Skip, Taken, plan_of};
@@ -85,15 +85,16 @@ pub struct MadeFiles {
     pub given: bool,
 }
 
-/// The row that gives a name other bytes than its old ones; None where they are the same.
-fn put(alloc: Global, name: &str, old: &[u8], bytes: Vec<u8>) -> Result<Option<Change>, AllocError>
-    ensures { IfOk result (λ r. r ≡ changes.put (Some old.now) name.now (Some bytes.items)) }
+/// The row that gives a file other bytes than its own; None where they are the same.
+fn put(alloc: Global, taken: &Taken, bytes: Vec<u8>) -> Result<Option<Change>, AllocError>
+    ensures { IfOk result (λ row. row
+        ≡ changes.put (Some taken.now.bytes) taken.now.name (Some bytes.items)) }
 {
-    if old == bytes.as_slice() {
+    if taken.bytes.as_slice() == bytes.as_slice() {
         return Ok(None);
     }
     Ok(Some(Change::Put {
-        name: Text::copy_of(alloc, name)?,
+        name: Text::copy_of(alloc, taken.name.as_str())?,
         bytes: Rows::from_vec(bytes),
     }))
 }
@@ -106,7 +107,7 @@ fn put_original(alloc: Global, taken: &Taken) -> Result<Option<Change>, AllocErr
         return Ok(None);
     };
     let original = Vec::from_slice(alloc, marked.original.as_slice())?;
-    put(alloc, taken.name.as_str(), taken.bytes.as_slice(), original)
+    put(alloc, taken, original)
 }
 
 /// A file that gets its original, for a cause. Any file but a prelinked one is its own.
@@ -114,21 +115,17 @@ fn made_original(alloc: Global, taken: &Taken, cause: Skip) -> Result<Made, Allo
     requires { HasItsEntry taken.now }
     ensures { IfOk result (λ made. made ≡ told.made_original taken.now cause) }
 {
-    Ok(Made {
-        change: put_original(alloc, taken)?,
-        state: RowState::Skipped(cause),
-        given: false,
-    })
-}
-
-fn renewed(alloc: Global, taken: &Taken, file: Vec<u8>, state: RowState) -> Result<Made, AllocError>
-    ensures { IfOk result (λ made. made ≡ told.renewed taken.now file.items state) }
-{
-    Ok(Made {
-        change: put(alloc, taken.name.as_str(), taken.bytes.as_slice(), file)?,
-        state,
-        given: true,
-    })
+    match put_original(alloc, taken) {
+        Ok(change) => Ok(Made {
+            change,
+            state: RowState::Skipped(cause),
+            given: false,
+        }),
+        Err(fault) => {
+            drop(cause);
+            Err(fault)
+        }
+    }
 }
 
 /// A library that is prelinked anew; one whose file would be too large gets its original.
@@ -139,14 +136,15 @@ fn made_library(alloc: Global, taken: &Taken, parts: &NewLibrary) -> Result<Made
 {
     match storable_library(alloc, taken, parts, Version::Two)? {
         None => Ok(made_original(alloc, taken, too_large(alloc, taken)?)?),
-        Some(file) => {
-            let state = RowState::Library {
+        Some(file) => Ok(Made {
+            change: put(alloc, taken, file)?,
+            state: RowState::Library {
                 current: false,
                 slot: parts.slot,
                 stamp: parts.stamp,
-            };
-            Ok(renewed(alloc, taken, file, state)?)
-        }
+            },
+            given: true,
+        }),
     }
 }
 
@@ -162,13 +160,14 @@ fn made_last(alloc: Global, taken: &Taken, outcome: RowOutcome) -> Result<Made, 
             given: false,
         }),
         RowOutcome::Original(cause) => Ok(made_original(alloc, taken, cause)?),
-        RowOutcome::Program(program) => {
-            let state = RowState::Program {
+        RowOutcome::Program(NewProgram { file, conflicts }) => Ok(Made {
+            change: put(alloc, taken, file)?,
+            state: RowState::Program {
                 current: false,
-                conflicts: program.conflicts,
-            };
-            Ok(renewed(alloc, taken, program.file, state)?)
-        }
+                conflicts,
+            },
+            given: true,
+        }),
         RowOutcome::Library(parts) => made_library(alloc, taken, &parts),
     }
 }
@@ -176,28 +175,23 @@ fn made_last(alloc: Global, taken: &Taken, outcome: RowOutcome) -> Result<Made, 
 fn name_of(taken: Taken) -> Text
     ensures { result ≡ taken.name }
 {
-    let Taken { name, .. } = taken;
+    let Taken { name, entry, .. } = taken;
+    drop(entry);
     name
 }
 
-fn add_made(all: MadeFiles, name: Text, made: Made) -> Result<MadeFiles, AllocError>
-    ensures { IfOk result (λ more. more ≡ told.with_made all name made) }
+fn add_made(all: &mut MadeFiles, name: Text, made: Made) -> Result<(), AllocError>
+    ensures { OnOk result (all.new ≡ told.with_made all.old name made) }
 {
-    let MadeFiles {
-        mut rows,
-        mut states,
+    let Made {
+        change,
+        state,
         given,
-    } = all;
-    rows.push_some(made.change)?;
-    states.push(ReportRow {
-        name,
-        state: made.state,
-    })?;
-    Ok(MadeFiles {
-        rows,
-        states,
-        given: given || made.given,
-    })
+    } = made;
+    all.states.push(ReportRow { name, state })?;
+    all.rows.push_some(change)?;
+    all.given = all.given || given;
+    Ok(())
 }
 
 fn all_made(
@@ -218,9 +212,11 @@ fn all_made(
     let items = files.into_vec();
     for taken in items {
         if let Some(outcome) = outcomes.next() {
-            let made = made_last(alloc, &taken, outcome)?;
+            let made = made_last(alloc, &taken, outcome);
             let name = name_of(taken);
-            all = add_made(all, name, made)?;
+            add_made(&mut all, name, made?)?;
+        } else {
+            drop(taken);
         }
     }
     Ok(all)

@@ -160,6 +160,23 @@ pub fn is_needed(needed: &Needed<'_>, row: usize) -> bool
     needed.made[row] || needed.held[row]
 }
 
+/// The own words of the library of a row, by what its relocations find.
+fn own_words_of(
+    alloc: Global,
+    numbered: &Numbered<'_>,
+    row: usize,
+    found: &[Option<Found>],
+) -> Result<Rows<Option<u64>>, NoMemory>
+    requires row { spec.IsLibraryRow numbered.now row }
+    requires found { by_rows.FindsRow numbered.now row found.now }
+    ensures { IfOk result (λ words. words ≡ by_rows.own_words_at numbered.now row) }
+{
+    let placed = numbered.placed(alloc, row)?;
+    let words = own_words_by(alloc, &placed.walk.scope, &placed.places, found);
+    drop(placed);
+    words
+}
+
 fn library_row_words(
     alloc: Global,
     numbered: &Numbered<'_>,
@@ -167,20 +184,23 @@ fn library_row_words(
     link: &Link,
     needed: &Needed<'_>,
 ) -> Result<RowWords, NoMemory>
-    requires row { spec.IsLibraryRow numbered.now row }
+    requires numbered { spec.IsNumbered numbered.now }
+    requires row { row < length numbered.now.files.now }
+    requires library { spec.is_library_row numbered.now row ≡ true }
     requires needed { by_rows.IsNeeded numbered.now needed.now }
-    requires link { by_rows.IsLinkAt numbered.now row link.now }
+    requires link { by_rows.IsLinkIf numbered.now needed.now row link.now }
     ensures { IfOk result (by_rows.AreRowWordsBy numbered.now row needed.now link.now) }
 {
-    let placed = numbered.placed(alloc, row)?;
-    let found = link.found.as_slice();
-    let words = own_words_by(alloc, &placed.walk.scope, &placed.places, found)?;
-    let own = words.as_slice();
+    if !is_needed(needed, row) {
+        return Ok(only_found(alloc, Rows::new(alloc)));
+    }
+    let all = own_words_of(alloc, numbered, row, link.found.as_slice())?;
+    let own = all.as_slice();
     let remaining = link.remaining.as_slice();
-    let kept = kept_if(alloc, own, needed.made[row])?;
+    let words = kept_if(alloc, own, needed.made[row])?;
     let held = held_of(alloc, numbered, row, own, remaining, needed.held[row])?;
     Ok(RowWords {
-        words: kept,
+        words,
         held,
         found: Rows::new(alloc),
     })
@@ -201,9 +221,6 @@ fn row_words_of(
 {
     if !numbered.files[row].is_library() {
         return Ok(only_found(alloc, link.found));
-    }
-    if !is_needed(needed, row) {
-        return Ok(only_found(alloc, Rows::new(alloc)));
     }
     library_row_words(alloc, numbered, row, &link, needed)
 }

@@ -77,7 +77,9 @@ fn link_if(
     }
     let members = numbered.walk(row);
     let walk = WalkScope::of(alloc, numbered.files, members)?;
-    let link = library_link(alloc, &walk, numbered.index)?;
+    let linked = library_link(alloc, &walk, numbered.index);
+    drop(walk);
+    let link = linked?;
     if numbered.files[row].is_library() {
         return Ok(link);
     }
@@ -192,11 +194,11 @@ fn meant(
 {
     let flags = flag_of(alloc, files.len(), row)?;
     let stale = flags.as_slice();
+    let places = slots_borne(alloc, files)?;
+    let stamps = stamps_borne(alloc, files)?;
     let digests = digests_of(alloc, files, stale)?;
     let walked = walks_of(alloc, files)?;
     let index = index_of(alloc, files)?;
-    let places = slots_borne(alloc, files)?;
-    let stamps = stamps_borne(alloc, files)?;
     let numbered = Numbered {
         files: &*files,
         walks: walked.walks.as_slice(),
@@ -205,7 +207,9 @@ fn meant(
         stamps: stamps.as_slice(),
         digests: digests.as_slice(),
     };
-    meant_if_marked(alloc, &numbered, stale, row, version)
+    let file = meant_if_marked(alloc, &numbered, stale, row, version);
+    drop(index);
+    file
 }
 
 fn is_file(file: Option<Vec<u8>>, bytes: &[u8]) -> bool

@@ -1,5 +1,5 @@
 use Rattle.std.proofs.Common.{sym, ◌∙◌}
-use Rattle.std.proofs.lemmas.Result.{err_from_is_err_and}
+use Rattle.std.proofs.lemmas.Result.{err_from_is_err_and, on_ok_weaker, IfErr-weaker}
 use Rattle.pl_scope.specs.Scope.{objects}
 use Rattle.pl_value.proofs.LinkableLaws.{all_symbols}
 use Rattle.pl_rewrite.proofs.NearLaws.{nothing_near}
@@ -31,13 +31,11 @@ add_near-requires-clause-references c =
 pub add_near-requires-clause-given : goal.add_near-requires-clause-given
 add_near-requires-clause-given c = (c.in_ok-add_rows.ensures.added.all, c.in_ok-add_rows.ensures.added.given)
 
-pub returns-in_err-add_near-clause-refused : goal.returns-in_err-add_near-clause-refused
-returns-in_err-add_near-clause-refused c =
-    let p = err_from_is_err_and c.from_residual-in_err-add_near.result c.from_residual-in_err-add_near.ensures.1 in
-    rw (p.1, p.2) (memory_refused c.args.linking.now c.args.member _ c.in_err-add_near.ensures.refused)
+pub returns-clause-refused : goal.returns-clause-refused
+returns-clause-refused c = IfErr-weaker c.add_near.result _ _ (λ fault memory. memory_refused c.args.linking.now c.args.member fault memory) c.add_near.ensures.refused
 
 pub returns-clause-added : goal.returns-clause-added
 returns-clause-added c =
     let adds = rw c.as_slice-relocs.ensures at c.in_ok-add_rows.ensures.added in
-    let nears = rw c.as_slice-relocs.ensures at c.in_ok-add_near.ensures.added in
-    member_added c.args.linking.now c.args.member c.args.held.now c.args.ranges.now _ _ c.object.result.now c.object.ensures.object adds nears
+    let nears = rw c.as_slice-relocs.ensures at c.add_near.ensures.added in
+    on_ok_weaker c.add_near.result (λ near. member_added c.args.linking.now c.args.member c.args.held.now c.args.ranges.now _ _ c.object.result.now c.object.ensures.object adds near) nears

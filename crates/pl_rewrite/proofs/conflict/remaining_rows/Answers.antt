@@ -1,4 +1,4 @@
-use Rattle.std.proofs.Common.{◌≤◌, List, get_or, length, ap, sym, refl, subst, arith, ◌∙◌}
+use Rattle.std.proofs.Common.{◌≤◌, List, length, ap, sym, subst, arith, ◌∙◌}
 use Rattle.std.specs.Prelude.{filter}
 use Rattle.std.proofs.lemmas.Result.{err_from_is_err_and}
 use Rattle.pl_base.specs.Answers.{because}
@@ -8,30 +8,27 @@ use Rattle.pl_conflict.proofs.ConflictLaws.{conflicts_ok}
 use Rattle.pl_cone.specs.Links.{objects_of}
 use Rattle.pl_elf.specs.declared.range.Range.{Range}
 use Rattle.pl_rewrite.specs.declared.row_words.HeldWord.{HeldWord}
-use Rattle.pl_rewrite.specs.declared.row_words.RowWords.{RowWords}
 use Rattle.pl_scope.proofs.MemberLaws.{length_objects}
 use Rattle.pl_value.specs.Ordinary.{loaded_objects}
 use Rattle.pl_value.specs.declared.fault.OrdinaryFault.TheVariants.{Link}
 use Rattle.pl_rewrite.specs.RemainingRows.{AddsNear, AddsRows, TellsHeldOf, is_near_word}
 use Rattle.pl_rewrite.specs.Ranges.{ranges_of}
-use Rattle.pl_rewrite.proofs.RowsLaws.{listed_done, listed_more, listed_stops, near_is, object_at, first_listed, told_is}
+use Rattle.pl_rewrite.proofs.RowsLaws.{listed_done, listed_more, listed_stops, near_is, object_at, first_listed}
 use Rattle.pl_rewrite.proofs.conflict.remaining_rows.Goals as goal
 
 pub loop-member-init : goal.loop-member-init
 loop-member-init c =
-    first_listed c.args.linking.now c.args.walk.now c.args.row_words.now c.args.own.now (ranges_of c.args.own.now) c.new.result.items c.in_ok-own_near.field-0.items c.requires.row_words c.new.ensures.items
-    (c.in_ok-own_near.ensures ∙ ap (λ (rs : List Range). filter (is_near_word rs) c.args.own.now) c.in_ok-ranges.ensures)
+    first_listed c.args.linking.now c.args.walk.now c.args.row_words.now c.args.own.now (ranges_of c.args.own.now) c.new.result.items c.in_ok-near.near.items c.requires.row_words c.new.ensures.items
+    (c.in_ok-near.ensures ∙ ap (λ (rs : List Range). filter (is_near_word rs) c.args.own.now) c.in_ok-ranges.ensures)
 
-pub bounds-walk-member : goal.bounds-walk-member
-bounds-walk-member c = omega (arith, c.loop-member-test.true, c.count-member-end.ensures.count, length_objects c.args.linking.now.scope.now, c.requires.row_words.one_each)
+pub held_at-held-requires-clause-member : goal.held_at-held-requires-clause-member
+held_at-held-requires-clause-member c = omega (arith, c.loop-member-test.true, c.count-member-end.ensures.count, length_objects c.args.linking.now.scope.now, c.requires.row_words.one_each)
 
-pub bounds-row_words-row : goal.bounds-row_words-row
-bounds-row_words-row c = c.requires.row_words.within c.loop-member.member 0 (omega (arith, c.loop-member-test.true, c.count-member-end.ensures.count, length_objects c.args.linking.now.scope.now, c.requires.row_words.one_each))
+pub held_at-held-requires-clause-rows : goal.held_at-held-requires-clause-rows
+held_at-held-requires-clause-rows c = c.requires.row_words.within
 
 pub add_member-requires-clause-held : goal.add_member-requires-clause-held
-add_member-requires-clause-held c = λ o at.
-    let told = told_is c.args.walk.now c.args.row_words.now c.loop-member.member (get_or c.args.walk.now c.loop-member.member 0) c.index-row_words-row.result refl (c.requires.row_words.within c.loop-member.member 0 (omega (arith, c.loop-member-test.true, c.count-member-end.ensures.count, length_objects c.args.linking.now.scope.now, c.requires.row_words.one_each))) c.index-row_words-row.is ∙ ap (λ (s : RowWords). s.held) c.index-row_words-row.is ∙ sym c.as_slice-held.ensures in
-    subst (TellsHeldOf c.args.linking.now c.loop-member.member o.relocations) told (c.requires.row_words.others c.loop-member.member o (omega (arith, c.loop-member.auto.member)) at)
+add_member-requires-clause-held c = λ o at. subst (TellsHeldOf c.args.linking.now c.loop-member.member o.relocations) (sym c.held_at-held.ensures) (c.requires.row_words.others c.loop-member.member o (omega (arith, c.loop-member.auto.member)) at)
 
 pub returns-in_err-add_member-clause-refused : goal.returns-in_err-add_member-clause-refused
 returns-in_err-add_member-clause-refused c =
@@ -42,9 +39,8 @@ returns-in_err-add_member-clause-refused c =
 pub loop-member-preserved : goal.loop-member-preserved
 loop-member-preserved c =
     let o = object_at (objects_of c.args.linking.now) c.loop-member.member (omega (arith, c.loop-member-test.true, c.count-member-end.ensures.count, length_objects c.args.linking.now.scope.now)) in
-    let told = told_is c.args.walk.now c.args.row_words.now c.loop-member.member (get_or c.args.walk.now c.loop-member.member 0) c.index-row_words-row.result refl (c.requires.row_words.within c.loop-member.member 0 (omega (arith, c.loop-member-test.true, c.count-member-end.ensures.count, length_objects c.args.linking.now.scope.now, c.requires.row_words.one_each))) c.index-row_words-row.is ∙ ap (λ (s : RowWords). s.held) c.index-row_words-row.is ∙ sym c.as_slice-held.ensures in
     let adds = c.in_ok-add_member.ensures.added in
-    let rows = subst (λ (hs : List HeldWord). AddsRows c.args.linking.now c.loop-member.member o.0.relocations hs c.loop-member.found_rows.rows.items c.add_member.new.found_rows.rows.items) (sym told) (adds.rows o.0 o.1) in
+    let rows = subst (λ (hs : List HeldWord). AddsRows c.args.linking.now c.loop-member.member o.0.relocations hs c.loop-member.found_rows.rows.items c.add_member.new.found_rows.rows.items) c.held_at-held.ensures (adds.rows o.0 o.1) in
     let near = subst (λ (rs : List Range). AddsNear c.args.linking.now c.loop-member.member o.0.relocations rs c.loop-member.found_rows.near.items c.add_member.new.found_rows.near.items) c.in_ok-ranges.ensures (adds.near o.0 o.1) in
     listed_more c.args.linking.now c.args.walk.now c.args.row_words.now (ranges_of c.args.own.now) c.loop-member.member o.0 _ _ _ _ (omega (arith, c.loop-member.auto.member)) o.1 rows near c.loop-member.invariant
 

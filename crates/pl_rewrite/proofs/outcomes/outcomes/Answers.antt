@@ -19,8 +19,8 @@ digests_of-requires-clause-one_each c =
     let t = c.args.table in
     ap length c.as_slice-stale.ensures ∙ (ap length c.requires.plan.stale ∙ length-map t.files.now (λ x. is_stale (files_in t.files.now) c.requires.asked.region c.args.plan.now.slots x.name))
 
-pub made_of-requires-clause-run : goal.made_of-requires-clause-run
-made_of-requires-clause-run c =
+pub made_of-made-requires-clause-run : goal.made_of-made-requires-clause-run
+made_of-made-requires-clause-run c =
     let a = c.requires.asked in
     let t = c.args.table in
     let p = c.args.plan.now in
@@ -31,8 +31,8 @@ made_of-requires-clause-run c =
       column = column _ t.links t.causes a p c.as_slice-stale.result.now again plan c.as_slice-stale.ensures;
     }
 
-pub made_of-requires-clause-links : goal.made_of-requires-clause-links
-made_of-requires-clause-links c =
+pub made_of-made-requires-clause-links : goal.made_of-made-requires-clause-links
+made_of-made-requires-clause-links c =
     let a = c.requires.asked in
     let t = c.args.table in
     let walks = c.as_slice.result.now in
@@ -57,5 +57,5 @@ returns c =
     let walks = c.as_slice.result.now in
     IfOk-weaker c.all_outcomes.result _ _
     (λ v all. λ a is plan.
-    rows_are _ t.links t.causes a p c.as_slice-stale.result.now (table_again a.region t walks c.as_slice.ensures is) (plan_again t walks a p plan) c.as_slice-2.ensures c.as_slice-3.ensures c.as_slice-stale.ensures c.in_ok-made.made.items v.items c.in_ok-made.ensures all)
+    rows_are _ t.links t.causes a p c.as_slice-stale.result.now (table_again a.region t walks c.as_slice.ensures is) (plan_again t walks a p plan) c.as_slice-2.ensures c.as_slice-3.ensures c.as_slice-stale.ensures c.in_ok-made.field-0.items v.items c.in_ok-made.ensures all)
     c.all_outcomes.ensures

@@ -17,15 +17,15 @@ loop-taken-init c =
     let count : into_iter_len c.into_iter-outcomes.result + 0 ≡ length os.items = omega (arith, c.into_iter-outcomes.ensures.len, os.ok.0) in
     (made_begin c.new.result c.new-2.result c.args.files os.items c.new.ensures c.new-2.ensures, c.into_iter-outcomes.ensures.rest, count)
 
-pub made_last-requires-clause-read : goal.made_last-requires-clause-read
-made_last-requires-clause-read c =
+pub made_last-made-requires-clause-read : goal.made_last-made-requires-clause-read
+made_last-made-requires-clause-read c =
     let given = c.into_iter-taken-iterator.ensures.into_iter_gives in
     let items = c.into_vec-items.ensures in
     let turn = YieldsList-turn (YieldsList-from_vec {s = c.into_iter-taken-iterator.result} c.args.files (given.0 ∙ items) (given.1 ∙ (c.into_vec-items.result.ok.0 ∙ ap length items))) c.loop-taken.yielded c.loop-taken.taken-iterator c.loop-taken.yielded_by c.next.result c.next.new.self c.in-Some.taken c.in-Some.is c.next.ensures.steps in
     subst HasItsEntry (sym turn.1) (c.requires.read (length c.loop-taken.yielded) c.in-Some.taken turn.0)
 
-pub made_last-requires-clause-may : goal.made_last-requires-clause-may
-made_last-requires-clause-may c =
+pub made_last-made-requires-clause-may : goal.made_last-made-requires-clause-may
+made_last-made-requires-clause-may c =
     let ts = c.args.files in
     let os = c.args.outcomes.items in
     let given = c.into_iter-taken-iterator.ensures.into_iter_gives in
@@ -34,8 +34,8 @@ made_last-requires-clause-may c =
     let i = length c.loop-taken.yielded in
     (next_is MayBe ts os i c.in-Some.taken c.in-Some-next.outcome (into_iter_items c.next-in-loop-taken.new.self) c.requires.may turn.0 turn.1 (sym c.loop-taken.invariant.1 ∙ c.in-Some-next.ensures.cases.0)).decided
 
-pub loop-taken-preserved-in-Some-next : goal.loop-taken-preserved-in-Some-next
-loop-taken-preserved-in-Some-next c =
+pub loop-taken-preserved-in_ok-add_made : goal.loop-taken-preserved-in_ok-add_made
+loop-taken-preserved-in_ok-add_made c =
     let ts = c.args.files in
     let os = c.args.outcomes.items in
     let given = c.into_iter-taken-iterator.ensures.into_iter_gives in
@@ -50,31 +50,11 @@ loop-taken-preserved-in-Some-next c =
     let none : MadeFiles = record { rows = []; states = []; given = false } in
     let next = made_next none ts os i t o turn.0 (AllZip-long MayBe ts os c.requires.may) turn.1 n.that in
     rw (length_push c.loop-taken.yielded t) (
-      c.in_ok-all.ensures ∙ ap (λ (k : List ℕ). with_made c.loop-taken.all k c.in_ok-made.made) c.name_of-name.ensures
+      c.in_ok-add_made.ensures ∙ ap (λ (k : List ℕ). with_made c.loop-taken.all k c.in_ok-made.field-0) c.name_of-name.ensures
           ∙ (ap (λ (m : Made). with_made c.loop-taken.all t.name m) c.in_ok-made.ensures ∙ (ap (λ (x : MadeFiles). with_made x t.name (made_by t o)) c.loop-taken.invariant.0 ∙ sym next)),
       more_left os rest i n.left,
       count,
     )
-
-pub loop-taken-preserved-in_default : goal.loop-taken-preserved-in_default
-loop-taken-preserved-in_default c =
-    let ts = c.args.files in
-    let os = c.args.outcomes.items in
-    let given = c.into_iter-taken-iterator.ensures.into_iter_gives in
-    let items = c.into_vec-items.ensures in
-    let turn = YieldsList-turn (YieldsList-from_vec {s = c.into_iter-taken-iterator.result} ts (given.0 ∙ items) (given.1 ∙ (c.into_vec-items.result.ok.0 ∙ ap length items))) c.loop-taken.yielded c.loop-taken.taken-iterator c.loop-taken.yielded_by c.next.result c.next.new.self c.in-Some.taken c.in-Some.is c.next.ensures.steps in
-    let i = length c.loop-taken.yielded in
-    absurd (some_left MayBe ts os i (into_iter_len c.loop-taken.outcomes) c.requires.may turn.0 c.loop-taken.invariant.2 c.in_default.ensures.cases.0)
-
-pub loop-taken-preserved-in_default-2 : goal.loop-taken-preserved-in_default-2
-loop-taken-preserved-in_default-2 c =
-    let ts = c.args.files in
-    let os = c.args.outcomes.items in
-    let given = c.into_iter-taken-iterator.ensures.into_iter_gives in
-    let items = c.into_vec-items.ensures in
-    let turn = YieldsList-turn (YieldsList-from_vec {s = c.into_iter-taken-iterator.result} ts (given.0 ∙ items) (given.1 ∙ (c.into_vec-items.result.ok.0 ∙ ap length items))) c.loop-taken.yielded c.loop-taken.taken-iterator c.loop-taken.yielded_by c.next.result c.next.new.self c.in-Some.taken c.in-Some.is c.next.ensures.steps in
-    let i = length c.loop-taken.yielded in
-    absurd (some_left MayBe ts os i (into_iter_len c.loop-taken.outcomes) c.requires.may turn.0 c.loop-taken.invariant.2 c.in_default.ensures.cases.0)
 
 pub loop-taken-preserved : goal.loop-taken-preserved
 loop-taken-preserved c =

@@ -1,4 +1,4 @@
-use Rattle.std.proofs.Common.{Bool, false, sym, ap, ◌∙◌}
+use Rattle.std.proofs.Common.{Bool, sym, ap, ◌∙◌}
 use Rattle.std.specs.Prelude.{◌||◌}
 use Rattle.std.proofs.lemmas.Bool.{or_left}
 use Rattle.pl_rewrite.specs.RowWords.{is_asked}

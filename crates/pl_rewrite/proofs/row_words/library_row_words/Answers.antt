@@ -1,31 +1,38 @@
-use Rattle.std.proofs.Common.{subst, sym, ◌∙◌, arith}
-use Rattle.pl_rewrite.specs.RowWords.{FindsRow}
-use Rattle.pl_rewrite.proofs.RowWordLaws.{asked_is, link_finds, link_numbers, row_words_library, walk_finds, walk_places, walk_some, walk_words}
+use Rattle.std.proofs.Common.{◌≡◌, ◌<◌, ℕ, true, length, subst, sym, ◌∙◌, arith}
+use Rattle.pl_rewrite.specs.RowWords.{FindsRow, IsLinkAt}
+use Rattle.pl_rewrite.specs.Rows.{IsLibraryRow, IsNumbered, is_library_row}
+use Rattle.pl_rewrite.specs.declared.numbers.Numbered.{Numbered}
+use Rattle.pl_cone.specs.declared.linking.Link.{Link}
+use Rattle.pl_rewrite.proofs.RowWordLaws.{asked_is, link_finds, link_numbers, row_words_library, row_words_nothing}
 use Rattle.pl_rewrite.proofs.row_words.library_row_words.Goals as goal
 
-pub placed-requires : goal.placed-requires
-placed-requires c = c.requires.row.numbered
+-- its walk is there, since it is linked
+linked : (n : Numbered) (row : ℕ) (link : Link) → IsNumbered n → row < length n.files.now → is_library_row n row ≡ true → IsLinkAt n row link → IsLibraryRow n row
+linked n row link numbered within library at = record { numbered = numbered; within = within; walk = at.walk; library = library }
 
-pub own_words_by-requires-clause-first : goal.own_words_by-requires-clause-first
-own_words_by-requires-clause-first c = walk_some c.args.numbered.now c.args.row c.in_ok-placed.placed.walk.scope c.requires.row.walk c.in_ok-placed.ensures.walk.scope
+pub returns-then-not-is_needed : goal.returns-then-not-is_needed
+returns-then-not-is_needed c = row_words_nothing c.args.numbered.now c.args.row c.args.needed.now c.args.link.now _ c.requires.library (sym c.is_needed.ensures ∙ c.if-not-is_needed.true)
 
-pub own_words_by-requires-clause-one_each : goal.own_words_by-requires-clause-one_each
-own_words_by-requires-clause-one_each c = walk_places c.args.numbered.now c.args.row c.in_ok-placed.placed.walk.scope c.in_ok-placed.placed.places c.requires.row.walk c.in_ok-placed.ensures.walk.scope c.in_ok-placed.ensures.places
+pub own_words_of-requires-clause-row : goal.own_words_of-requires-clause-row
+own_words_of-requires-clause-row c = linked c.args.numbered.now c.args.row c.args.link.now c.requires.numbered c.requires.row c.requires.library (c.requires.link (sym c.is_needed.ensures ∙ c.if-not-is_needed.false))
 
-pub own_words_by-requires-clause-found : goal.own_words_by-requires-clause-found
-own_words_by-requires-clause-found c =
-    walk_finds c.args.numbered.now c.args.row c.in_ok-placed.placed.walk.scope c.as_slice-found.result.now c.in_ok-placed.ensures.walk.scope
-    (subst (FindsRow c.args.numbered.now c.args.row) (sym c.as_slice-found.ensures) (link_finds c.args.numbered.now c.args.row c.args.link.now c.requires.link c.requires.row.library))
+pub own_words_of-requires-clause-found : goal.own_words_of-requires-clause-found
+own_words_of-requires-clause-found c =
+    let at = c.requires.link (sym c.is_needed.ensures ∙ c.if-not-is_needed.false) in
+    subst (FindsRow c.args.numbered.now c.args.row) (sym c.as_slice.ensures) (link_finds c.args.numbered.now c.args.row c.args.link.now at c.requires.library)
+
+pub held_of-requires-clause-row : goal.held_of-requires-clause-row
+held_of-requires-clause-row c = linked c.args.numbered.now c.args.row c.args.link.now c.requires.numbered c.requires.row c.requires.library (c.requires.link (sym c.is_needed.ensures ∙ c.if-not-is_needed.false))
 
 pub held_of-requires-clause-words : goal.held_of-requires-clause-words
-held_of-requires-clause-words c =
-    c.as_slice-own.ensures ∙ walk_words c.args.numbered.now c.args.row c.in_ok-placed.placed.walk.scope c.in_ok-placed.placed.places c.in_ok-words.words c.requires.row.walk c.in_ok-placed.ensures.walk.scope c.in_ok-placed.ensures.places c.in_ok-words.ensures
+held_of-requires-clause-words c = c.as_slice-own.ensures ∙ c.in_ok-all.ensures
 
 pub held_of-requires-clause-remaining : goal.held_of-requires-clause-remaining
-held_of-requires-clause-remaining c = rw c.as_slice-remaining.ensures (link_numbers c.args.numbered.now c.args.row c.args.link.now c.requires.link c.requires.row.library)
+held_of-requires-clause-remaining c =
+    let at = c.requires.link (sym c.is_needed.ensures ∙ c.if-not-is_needed.false) in
+    rw c.as_slice-remaining.ensures (link_numbers c.args.numbered.now c.args.row c.args.link.now at c.requires.library)
 
 pub returns : goal.returns
 returns c =
-    let words = walk_words c.args.numbered.now c.args.row c.in_ok-placed.placed.walk.scope c.in_ok-placed.placed.places c.in_ok-words.words c.requires.row.walk c.in_ok-placed.ensures.walk.scope c.in_ok-placed.ensures.places c.in_ok-words.ensures in
-    row_words_library c.args.numbered.now c.args.row c.args.needed.now c.args.link.now _ _ _ c.requires.row.library (asked_is c.args.needed.now.made.now c.args.row _ (omega (arith, c.requires.row.within, c.requires.needed.made))) (asked_is c.args.needed.now.held.now c.args.row _ (omega (arith, c.requires.row.within, c.requires.needed.held)))
-    (λ on. c.in_ok-kept.ensures on ∙ (c.as_slice-own.ensures ∙ words)) (λ on. rw c.as_slice-remaining.ensures at (c.in_ok-held.ensures on))
+    row_words_library c.args.numbered.now c.args.row c.args.needed.now c.args.link.now _ _ _ c.requires.library (asked_is c.args.needed.now.made.now c.args.row _ (omega (arith, c.requires.row, c.requires.needed.made))) (asked_is c.args.needed.now.held.now c.args.row _ (omega (arith, c.requires.row, c.requires.needed.held)))
+    (λ on. c.in_ok-words.ensures on ∙ (c.as_slice-own.ensures ∙ c.in_ok-all.ensures)) (λ on. rw c.as_slice-remaining.ensures at (c.in_ok-held.ensures on))

@@ -22,14 +22,14 @@ of-requires-clause-files c = c.requires.needed.numbered.taken
 pub of-requires-clause-rows : goal.of-requires-clause-rows
 of-requires-clause-rows c = rw c.walk-members.ensures (c.requires.needed.walks c.args.row (sym c.is_needed.ensures ∙ c.if-not-is_needed.false)).rows
 
-pub library_link-requires-clause-some : goal.library_link-requires-clause-some
-library_link-requires-clause-some c =
+pub library_link-linked-requires-clause-some : goal.library_link-linked-requires-clause-some
+library_link-linked-requires-clause-some c =
     let row = c.requires.needed.walks c.args.row (sym c.is_needed.ensures ∙ c.if-not-is_needed.false) in
     let walk = subst (λ (ks : List ℕ). IsWalkScope c.args.numbered.now.files.now ks c.in_ok-walk.walk) c.walk-members.ensures c.in_ok-walk.ensures in
     omega (arith, ap length walk.scope, row.rows.each, ap length row.is)
 
-pub library_link-requires-clause-index : goal.library_link-requires-clause-index
-library_link-requires-clause-index c =
+pub library_link-linked-requires-clause-index : goal.library_link-linked-requires-clause-index
+library_link-linked-requires-clause-index c =
     let row = c.requires.needed.walks c.args.row (sym c.is_needed.ensures ∙ c.if-not-is_needed.false) in
     let walk = subst (λ (ks : List ℕ). IsWalkScope c.args.numbered.now.files.now ks c.in_ok-walk.walk) c.walk-members.ensures c.in_ok-walk.ensures in
     index_of_walk c.args.numbered.now c.args.row c.in_ok-walk.walk c.requires.needed.numbered row walk

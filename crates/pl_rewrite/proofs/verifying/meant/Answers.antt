@@ -20,8 +20,8 @@ walks_of-requires c = c.requires
 pub index_of-requires : goal.index_of-requires
 index_of-requires c = c.requires
 
-pub meant_if_marked-requires-clause-numbered : goal.meant_if_marked-requires-clause-numbered
-meant_if_marked-requires-clause-numbered c =
+pub meant_if_marked-file-requires-clause-numbered : goal.meant_if_marked-file-requires-clause-numbered
+meant_if_marked-file-requires-clause-numbered c =
     let ts = c.args.files.now in
     record {
       taken = c.requires;
@@ -32,14 +32,14 @@ meant_if_marked-requires-clause-numbered c =
       digests = subst (AreDigests ts) (sym c.as_slice-4.ensures.value) c.in_ok-digests.ensures;
     }
 
-pub meant_if_marked-requires-clause-stale : goal.meant_if_marked-requires-clause-stale
-meant_if_marked-requires-clause-stale c = rw c.as_slice-stale.ensures.value c.in_ok-flags.ensures
+pub meant_if_marked-file-requires-clause-stale : goal.meant_if_marked-file-requires-clause-stale
+meant_if_marked-file-requires-clause-stale c = rw c.as_slice-stale.ensures.value c.in_ok-flags.ensures
 
-pub meant_if_marked-requires-clause-borne : goal.meant_if_marked-requires-clause-borne
-meant_if_marked-requires-clause-borne c = record {
+pub meant_if_marked-file-requires-clause-borne : goal.meant_if_marked-file-requires-clause-borne
+meant_if_marked-file-requires-clause-borne c = record {
   places = c.as_slice-2.ensures ∙ c.in_ok-places.ensures;
   stamps = c.as_slice-3.ensures ∙ c.in_ok-stamps.ensures;
 }
 
 pub returns : goal.returns
-returns c = c.meant_if_marked.ensures
+returns c = c.meant_if_marked-file.ensures

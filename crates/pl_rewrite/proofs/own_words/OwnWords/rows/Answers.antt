@@ -1,4 +1,3 @@
-use Rattle.std.proofs.Common.{◌∙◌}
 use Rattle.pl_rewrite.proofs.own_words.OwnWords.rows.Goals as goal
 
 pub returns : goal.returns
