@@ -108,7 +108,7 @@ pub fn unless_memory(skip: Skip) -> Result<Skip, NoMemory>
 }
 
 /// Why a run has no stamp.
-#[derive(Clone, Copy)]
+#[derive(Clone, Copy, Debug, PartialEq, Eq)]
 pub enum ConeFault {
     /// The greatest stamp is the last that there is, 2^32 - 1, and a name would get a later one.
     StampsSpent(u32),

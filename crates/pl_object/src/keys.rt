@@ -1,4 +1,4 @@
-// Definers of one name and version, by their keys: for objects where so many of them have one hash, or there are so many versions, that comparing each two takes long.
+// Definers of one name and version, by lists of names: for objects where so many names have one number (`name_key` of twins.rt), or there are so many versions, that comparing each two takes long.
 ghost use Rattle.std.specs.Prelude.{◌≡◌, Some, IfOk};
 ghost use Rattle.pl_object.specs.SymbolClauses.{duplicate_definer};
 ghost use Rattle.pl_object.specs.Keys as spec;

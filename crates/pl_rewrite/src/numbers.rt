@@ -1,4 +1,4 @@
-// The slots and stamps of files.
+// The files of a run by their rows: walks, index, slots, stamps and digests; and the walk that is worked on.
 ghost use Rattle.std.specs.Prelude.{◌≡◌, IfOk};
 ghost use Rattle.pl_rewrite.specs.Rows as spec;
 

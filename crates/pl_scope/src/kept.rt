@@ -24,7 +24,7 @@ pub enum KeptIndex<'a> {
     Lists(ScopeIndex<'a>),
 }
 
-/// The look-ups of a scope whose answers are kept: one place for each member, symbol and class of relocations (JUMP_SLOT, COPY, every other). An index of the definers of all members, by keys of their names, tells a first look-up which members to ask, and which of their symbols. Contracts see it as the scope.
+/// The look-ups of a scope whose answers are kept: one place for each member, symbol and class of relocations (JUMP_SLOT, COPY, every other). An index of the definers of all members, by the hashes of their names, or by keys where many share a hash, tells a first look-up which members to ask, and which of their symbols. Contracts see it as the scope.
 #[derive(Drop)]
 pub struct Kept<'s, 'a> {
     scope: &'s Scope<'a>,

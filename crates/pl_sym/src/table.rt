@@ -31,11 +31,7 @@ fn symbol_at(table: &[u8], strings: &StringEnds, at: usize) -> Result<Symbol, Sy
     }
 }
 
-/// The symbols of a table, one for each whole row of 24 bytes in the table's order. A symbol's name is the string from the
-/// offset that its row has up to the first 0 byte; short names are copied, and the long ones share one copy of the strings.
-/// No table here holds versions, so each symbol has the version word 1. BadSymbol exactly where a name has no end inside the
-/// strings (gABI chapter 4, "Symbol Table"). The time grows as the table and the strings, also where names share the ends of
-/// long strings.
+/// The symbols of a table, one for each whole row of 24 bytes in the table's order. A symbol's name is the string from the offset that its row has up to the first 0 byte; short names are copied, and the long ones share one copy of the strings. No table here holds versions, so each symbol has the version word 1. BadSymbol exactly where a name has no end inside the strings (gABI chapter 4, "Symbol Table"). The time grows as the table and the strings, also where names share the ends of long strings.
 pub fn read_symbols(alloc: Global, table: &[u8], strings: &[u8]) -> Result<Rows<Symbol>, SymFault>
     ensures { Answers spec.is_memory result (spec.symbols table.now strings.now) }
 {
