@@ -98,7 +98,7 @@ fn reads_symbols(rt: HostRuntime) -> Result<(), Fail> {
 }
 
 /// Longer than the names that stand in a symbol.
-const LONG: &[u8] = b"a_name_of_more_than_23_bytes";
+const LONG: &[u8] = b"a_name_of_more_than_14_bytes";
 
 #[test]
 fn keeps_names_of_each_length(rt: HostRuntime) -> Result<(), Fail> {
@@ -106,6 +106,21 @@ fn keeps_names_of_each_length(rt: HostRuntime) -> Result<(), Fail> {
         let name = Name::copy_of(rt.alloc(), &LONG[..size])?;
         if name.as_slice() != &LONG[..size] {
             return Err(size.into());
+        }
+    }
+    Ok(())
+}
+
+/// How many bytes names have: the most of which strings that are shared are asked, and more, which have a block of their own.
+const LONG_SIZES: [usize; 3] = [65_535, 65_536, 70_000];
+
+#[test]
+fn keeps_long_names(rt: HostRuntime) -> Result<(), Fail> {
+    for size in &LONG_SIZES {
+        let bytes = Vec::from_elem(rt.alloc(), b'n', *size)?;
+        let name = Name::copy_of(rt.alloc(), &bytes)?;
+        if name.as_slice() != bytes.as_slice() {
+            return Err((*size).into());
         }
     }
     Ok(())
