@@ -6,6 +6,7 @@ use Rattle.std.specs.List.Sorted.{IsPartitionPoint}
 use Rattle.std.proofs.lemmas.Bool.{cases_Bool, and_parts, or_left, or_right, eqb-true, eq-eqb, ltb-true, ltb-false}
 use Rattle.std.proofs.lemmas.List.{length-take, length-drop, get_or-take, get_or-drop}
 use Rattle.std.proofs.lemmas.List.Elements.{All-append, All-cons, All-take, All-drop, All-nil}
+use Rattle.std.proofs.lemmas.List.Sorted.{IsNonDecreasingBy-drop, IsNonDecreasingBy-take}
 use Rattle.std.proofs.lemmas.List.Folds.{Any-from_list_any, list_any_at, list_any-append}
 use Rattle.pl_scope.specs.Block.{values}
 use Rattle.pl_scope.specs.Entries.{is_entry, has_key, has_value, AreBetween, AreUnder, IsAdded}
@@ -109,6 +110,7 @@ module _ (es : List Entry) (low high i j : ℕ)
   are_between = record {
     whole = λ key value from to hit. in_range key value from to hit;
     among = λ count all. All-take (λ (e : Entry). e.value < count) (j - i) (drop i es) (All-drop (λ (e : Entry). e.value < count) i es all);
+    rising = λ is. IsNonDecreasingBy-take (λ (e : Entry). e.key) (j - i) (drop i es) (IsNonDecreasingBy-drop (λ (e : Entry). e.key) i es is);
   }
 
 -- those of one key

@@ -11,12 +11,13 @@ use Rattle.pl_sym.specs.Definers.{is_definer}
 use Rattle.pl_sym.specs.declared.class.Class.TheVariants.{Other}
 use Rattle.pl_sym.specs.declared.symbol.Symbol.{Symbol}
 use Rattle.pl_scope.specs.Definers.{pair}
-use Rattle.pl_scope.specs.Entries.{is_entry}
+use Rattle.pl_scope.specs.Entries.{is_entry, AreBetween}
 use Rattle.pl_scope.specs.ScopeIndex.{best_of}
 use Rattle.pl_scope.specs.VersionIndex.{IsVersionIndex}
 use Rattle.pl_scope.specs.declared.entries.Entry.{Entry}
 use Rattle.pl_scope.specs.declared.found.Found.{Found}
 use Rattle.pl_scope.specs.declared.short_index.ShortIndex.{ShortIndex}
+use Rattle.pl_scope.specs.declared.short_index.UnderName.{UnderName}
 use Rattle.pl_scope.specs.declared.version_index.VersionIndex.{VersionIndex}
 use Rattle.pl_scope.specs.declared.wanted.Wanted.{Wanted}
 
@@ -84,6 +85,11 @@ IsVersionsAt index member v = (o : Object) → HasShort index member o → IsVer
 -- the name of the version that a word of a member stands for
 abbrev pub IsVersionAt : ShortIndex → ℕ → ℕ → Option (List ℕ) → Type 0
 IsVersionAt index member word name = (o : Object) → HasShort index member o → name ≡ version_name o.versions word
+
+-- one list of the definers of objects, and its entries under the hash of a name
+pub record AreUnderName (objects : List Object) (w : Wanted) (u : UnderName) : Type 0 where
+  pub index : IsShortIndex objects u.definers.now
+  pub entries : AreBetween u.definers.now.definers.entries.items (pair (mixed w.gnu) 0) (end_of_hash (mixed w.gnu) (length objects)) u.entries.now
 
 -- ---- the search
 

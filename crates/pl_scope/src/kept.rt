@@ -4,7 +4,7 @@ ghost use Rattle.pl_scope.specs.Scope.{objects, IsReference, IsSymbol};
 ghost use Rattle.pl_scope.specs.Finds.{finds};
 ghost use Rattle.pl_scope.specs.Kept as spec;
 
-use crate::answers::Answers;
+use crate::answers::Answer;
 use crate::lookup::{Way, find_by};
 use crate::scope_index::{ScopeIndex, index_of};
 use crate::short_index::{ShortIndex, short_index_of};
@@ -24,7 +24,7 @@ pub enum KeptIndex<'a> {
     Lists(ScopeIndex<'a>),
 }
 
-/// The look-ups of a scope whose answers are kept: one place for each member, symbol and class of relocations (JUMP_SLOT, COPY, every other). An index of the definers of all members, by the hashes of their names, or by keys where many share a hash, tells a first look-up which members to ask, and which of their symbols. Contracts see it as the scope.
+/// The look-ups of a scope whose answers are kept: one place for each member and symbol, for the class of relocations (JUMP_SLOT, COPY, every other) that asked last. An index of the definers of all members, by the hashes of their names, or by keys where many share a hash, tells a first look-up which members to ask, and which of their symbols. Contracts see it as the scope.
 #[derive(Drop)]
 pub struct Kept<'s, 'a> {
     scope: &'s Scope<'a>,
@@ -32,7 +32,7 @@ pub struct Kept<'s, 'a> {
     /// The definers of all members.
     index: KeptIndex<'a>,
 
-    rows: Vec<Vec<Answers>>,
+    rows: Vec<Vec<Answer>>,
 }
 
 impl<'s, 'a> Model for Kept<'s, 'a> {
@@ -68,14 +68,14 @@ fn way_by<'i, 'a>(index: &'i KeptIndex<'a>) -> Way<'i, 'a>
     }
 }
 
-fn unasked_row(alloc: Global, object: &Object) -> Result<Vec<Answers>, AllocError>
+fn unasked_row(alloc: Global, object: &Object) -> Result<Vec<Answer>, AllocError>
     ensures { IfOk result (λ row. row.items ≡ spec.unasked_row object.now) }
 {
-    Vec::from_elem(alloc, Answers::unasked(), object.symbols.len())
+    Vec::from_elem(alloc, Answer::Unasked, object.symbols.len())
 }
 
 /// A place for each symbol of each member.
-fn unasked_rows(alloc: Global, scope: &Scope<'_>) -> Result<Vec<Vec<Answers>>, AllocError>
+fn unasked_rows(alloc: Global, scope: &Scope<'_>) -> Result<Vec<Vec<Answer>>, AllocError>
     ensures { IfOk result (λ rows. map (λ row. row.items) rows.items
         ≡ map spec.unasked_row (objects scope.now)) }
 {
@@ -87,14 +87,14 @@ fn unasked_rows(alloc: Global, scope: &Scope<'_>) -> Result<Vec<Vec<Answers>>, A
 }
 
 /// Keeps what a reference finds.
-fn keep(scope: &Scope<'_>, rows: &mut [Vec<Answers>], reference: Reference, found: Option<Found>)
+fn keep(scope: &Scope<'_>, rows: &mut [Vec<Answer>], reference: Reference, found: Option<Found>)
     requires kept { spec.IsKept (objects scope.now) (map (λ row. row.items) rows.old) }
     requires reference { IsReference scope.now reference }
     requires found { found ≡ finds (objects scope.now) reference }
     ensures { spec.IsKept (objects scope.now) (map (λ row. row.items) rows.new) }
 {
     let row = &mut rows[reference.member as usize];
-    row[reference.symbol as usize].keep(reference.kind, found);
+    row[reference.symbol as usize] = Answer::new(reference.kind, found);
 }
 
 impl<'s, 'a> Kept<'s, 'a> {
@@ -122,8 +122,8 @@ impl<'s, 'a> Kept<'s, 'a> {
             found.symbol) }
         ensures same { self.new ≡ self.old }
     {
-        let answers = self.rows[reference.member as usize][reference.symbol as usize];
-        if let Some(found) = answers.of(reference.kind) {
+        let answer = self.rows[reference.member as usize][reference.symbol as usize];
+        if let Some(found) = answer.of(reference.kind) {
             return found;
         }
         let found = find_by(self.scope, reference, way_by(&self.index));

@@ -5,6 +5,8 @@ ghost use Rattle.std.specs.Option.{ForSome, option_map};
 ghost use Rattle.pl_object.specs.SymbolClauses.{version_name};
 ghost use Rattle.pl_sym.specs.Symbol.{is_undefined};
 ghost use Rattle.pl_scope.specs.Scope.{objects, IsFit, IsReference, IsSymbol};
+ghost use Rattle.pl_scope.specs.Definers as pairs;
+ghost use Rattle.pl_scope.specs.Entries as entries;
 ghost use Rattle.pl_scope.specs.Probing as probing;
 ghost use Rattle.pl_scope.specs.Folder as folder;
 ghost use Rattle.pl_scope.specs.ScopeIndex as index;
@@ -12,12 +14,15 @@ ghost use Rattle.pl_scope.specs.ShortIndex as short;
 ghost use Rattle.pl_scope.specs.Finds as spec;
 
 use crate::block::{Block, Lists, Place, matching_in_block};
-use crate::entries::Entry;
+use crate::definers::pair;
+use crate::entries::{Entry, under};
 use crate::folder::{Among, position_of};
 use crate::matching::{defines, matching};
 use crate::probe::matching_by_table;
 use crate::scope_index::{ScopeIndex, members_under, own_at};
-use crate::short_index::{ShortIndex, member_of, mixed, of_member, under_hash, versions_at};
+use crate::short_index::{
+    ShortIndex, UnderName, member_of, mixed, of_member, under_hash, versions_at,
+};
 use crate::wanted::{Wanted, wanted_by};
 use crate::{Found, Reference, Scope};
 use pl_elf::constants::R_X86_64_COPY;
@@ -157,7 +162,32 @@ fn matching_by_index(
     matching_in_block(&block, wanted.version)
 }
 
-/// The index of a member's symbol that matches, by one list of the scope, among the member's own definers under the name's hash.
+/// The index of a member's symbol that matches, among the member's own definers under the name's hash, which are of one list of the scope.
+fn matching_among(
+    object: &Object,
+    wanted: &Wanted<'_>,
+    member: u32,
+    definers: &ShortIndex<'_>,
+    among: &[Entry],
+) -> Option<u32>
+    requires wanted { probing.IsWanted wanted.now }
+    requires own { short.HasShort definers.now member object.now }
+    requires among { entries.AreUnder definers.now.definers.entries.items
+        (pairs.pair (short.mixed wanted.now.gnu) member) among.now }
+    ensures { result ≡ probing.matching_for object.now wanted.now }
+{
+    let versions = versions_at(definers, member);
+    let block = Block {
+        object,
+        name: wanted.name,
+        class: wanted.class,
+        versions,
+        place: Place::Among(among),
+    };
+    matching_in_block(&block, wanted.version)
+}
+
+/// The index of a member's symbol that matches, by one list of the scope.
 fn matching_by_short(
     object: &Object,
     wanted: &Wanted<'_>,
@@ -168,16 +198,8 @@ fn matching_by_short(
     requires own { short.HasShort definers.now member object.now }
     ensures { result ≡ probing.matching_for object.now wanted.now }
 {
-    let versions = versions_at(definers, member);
     let among = of_member(definers, mixed(wanted.gnu), member);
-    let block = Block {
-        object,
-        name: wanted.name,
-        class: wanted.class,
-        versions,
-        place: Place::Among(among),
-    };
-    matching_in_block(&block, wanted.version)
+    matching_among(object, wanted, member, definers, among)
 }
 
 /// The matching definer of a member.
@@ -281,6 +303,48 @@ fn first_indexed(
     best
 }
 
+/// The matching definer of a member, among its entries under the name's hash.
+#[tactic(auto, unfolding(crate::specs::Finds::in_member))]
+fn in_member_under(
+    scope: &Scope<'_>,
+    wanted: &Wanted<'_>,
+    member: u32,
+    under_name: UnderName<'_, '_>,
+) -> Option<Found>
+    requires within { member < length scope.now }
+    requires wanted { probing.IsWanted wanted.now }
+    requires under { short.AreUnderName (objects scope.now) wanted.now under_name }
+    ensures { result ≡ spec.in_member (objects scope.now) wanted.now.name.now wanted.now.class
+        (option_map (λ x. x.now) wanted.now.version) member }
+{
+    let object = scope.object(member);
+    let among = under(under_name.entries, pair(mixed(wanted.gnu), member));
+    let matched = matching_among(object, wanted, member, under_name.definers, among);
+    found_in(member, matched)
+}
+
+/// The matching definer of a member where it is better than what was found, which else stays.
+fn best_of_under(
+    scope: &Scope<'_>,
+    wanted: &Wanted<'_>,
+    start: u32,
+    best: Option<Found>,
+    member: u32,
+    under_name: UnderName<'_, '_>,
+) -> Option<Found>
+    requires within { member < length scope.now }
+    requires wanted { probing.IsWanted wanted.now }
+    requires under { short.AreUnderName (objects scope.now) wanted.now under_name }
+    ensures { result ≡ index.best_of (objects scope.now) wanted.now.name.now wanted.now.class
+        (option_map (λ x. x.now) wanted.now.version) start best member }
+{
+    if is_better(start, best, member) {
+        in_member_under(scope, wanted, member, under_name).or(best)
+    } else {
+        best
+    }
+}
+
 /// The matching definer of an entry's member, where the scope has it and it is better than what was found, which else stays.
 fn best_under(
     scope: &Scope<'_>,
@@ -288,16 +352,16 @@ fn best_under(
     start: u32,
     best: Option<Found>,
     entry: &Entry,
-    definers: &ShortIndex<'_>,
+    under_name: UnderName<'_, '_>,
 ) -> Option<Found>
     requires wanted { probing.IsWanted wanted.now }
-    requires index { short.IsShortIndex (objects scope.now) definers.now }
+    requires under { short.AreUnderName (objects scope.now) wanted.now under_name }
     ensures { result ≡ short.best_under (objects scope.now) wanted.now start best entry.now }
 {
     let member = member_of(entry);
     let count = scope.count();
     if member < count {
-        best_of(scope, wanted, start, best, member, Way::Short(definers))
+        best_of_under(scope, wanted, start, best, member, under_name)
     } else {
         best
     }
@@ -315,9 +379,11 @@ fn first_short(
     ensures { result ≡ spec.first_match scope.now wanted.now start }
 {
     let count = scope.count();
+    let entries = under_hash(definers, mixed(wanted.gnu), count);
+    let under_name = UnderName { definers, entries };
     let mut best = None;
-    for entry in under_hash(definers, mixed(wanted.gnu), count) {
-        best = best_under(scope, wanted, start, best, entry, definers);
+    for entry in entries {
+        best = best_under(scope, wanted, start, best, entry, under_name);
     }
     best
 }

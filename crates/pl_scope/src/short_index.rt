@@ -30,6 +30,13 @@ pub struct ShortIndex<'a> {
     pub versions: Vec<VersionIndex<'a>>,
 }
 
+/// One list of the definers of all members, and its entries under the hash of a name.
+#[derive(Clone, Copy)]
+pub struct UnderName<'i, 'a> {
+    pub definers: &'i ShortIndex<'a>,
+    pub entries: &'i [Entry],
+}
+
 /// A hash spread over all numbers of 32 bits: the hashes of names that differ in their last bytes lie close together.
 pub fn mixed(hash: u32) -> u32
     ensures { result ≡ spec.mixed hash }

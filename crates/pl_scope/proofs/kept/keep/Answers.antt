@@ -31,4 +31,4 @@ returns c =
     let value : old ≡ get_or row.items r.symbol old = rw (← c.index-rows-reference.is) at c.index_mut.ensures.value in
     let answers_at : slice_get row.items r.symbol ≡ Some old = slice_get_read row.items (length row.items) r.symbol old refl within value in
     let kept = write_kept os (map items_of rows) r.member r.symbol r.kind row.items old c.args.found c.requires.kept (record { row_at = row_at; answers_at = answers_at }) c.requires.found in
-    subst (IsKept os) (sym (vec_written rows r.member r.symbol row c.keep.new.self _ c.index-rows-reference.is c.keep.ensures)) kept
+    subst (IsKept os) (sym (vec_written rows r.member r.symbol row c.new.result _ c.index-rows-reference.is c.new.ensures)) kept

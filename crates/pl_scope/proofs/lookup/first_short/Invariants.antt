@@ -6,4 +6,4 @@ use Rattle.pl_scope.proofs.ShortIndexLaws.{placed}
 use Rattle.pl_scope.proofs.lookup.first_short.Given as goal
 
 abbrev pub invariant-loop-entry : goal.invariant-loop-entry
-invariant-loop-entry l = IsBest (objects l.scope) l.wanted.name.now l.wanted.class (option_map (λ x. x.now) l.wanted.version) l.start (map placed (take l.entry-index l.entry-items)) l.best
+invariant-loop-entry l = IsBest (objects l.scope) l.wanted.name.now l.wanted.class (option_map (λ x. x.now) l.wanted.version) l.start (map placed (take l.entry-index l.entries)) l.best

@@ -1,16 +1,11 @@
-use Rattle.std.proofs.Common.{◌∙◌, ap}
-use Rattle.pl_scope.specs.ShortIndex.{mixed}
-use Rattle.pl_scope.proofs.ShortIndexLaws.{short_have, versions_below}
+use Rattle.pl_scope.specs.Definers.{pair}
+use Rattle.pl_scope.specs.Entries.{AreUnder}
+use Rattle.std.proofs.Common.{ℕ, subst}
 use Rattle.pl_scope.proofs.lookup.matching_by_short.Goals as goal
-
-pub versions_at-versions-requires : goal.versions_at-versions-requires
-versions_at-versions-requires c = versions_below c.args.definers.now c.args.member c.args.object.now c.requires.own
 
 pub of_member-among-requires : goal.of_member-among-requires
 of_member-among-requires c = c.requires.own.rising
 
-pub matching_in_block-requires : goal.matching_in_block-requires
-matching_in_block-requires c = record {
-  versions = c.versions_at-versions.ensures c.args.object.now c.requires.own;
-  place = short_have c.args.definers.now c.args.member c.mixed.result c.args.object.now c.args.wanted.now.name.now c.args.wanted.now.class c.of_member-among.result.now c.requires.own (c.mixed.ensures ∙ ap mixed c.requires.wanted.gnu) c.of_member-among.ensures;
-}
+pub matching_among-requires-clause-among : goal.matching_among-requires-clause-among
+matching_among-requires-clause-among c =
+    subst (λ (hash : ℕ). AreUnder c.args.definers.now.definers.entries.items (pair hash c.args.member) c.of_member-among.result.now) c.mixed.ensures c.of_member-among.ensures
