@@ -1,8 +1,9 @@
 -- How what a file is made of is told, step by step.
-use Rattle.std.proofs.Common.{◌≡◌, ℕ, ◌<◌, ◌≤◌, Bool, true, false, List, [], length, Option, Some, None, Ok, refl, sym, ap, subst, ◌∙◌, arith}
+use Rattle.std.proofs.Common.{◌≡◌, ℕ, ◌+◌, ◌*◌, ◌%◌, ◌^◌, ◌<◌, ◌≤◌, Bool, true, false, List, [], length, Option, Some, None, Ok, refl, sym, ap, subst, ◌∙◌, arith}
 use Rattle.std.specs.Prelude.{if◌then◌else◌}
 use Rattle.std.specs.Bool.{then_some}
-use Rattle.pl_base.specs.Bytes.{word32}
+use Rattle.pl_base.specs.Bytes.{word32, word64}
+use Rattle.pl_base.specs.Windows.{Window, within}
 use Rattle.pl_elf.specs.Kinds.{is_library}
 use Rattle.pl_elf.specs.declared.segment.Segment.{Segment}
 use Rattle.pl_object.specs.Accepted.{HasHead}
@@ -11,18 +12,17 @@ use Rattle.pl_object.specs.Reads.{reads}
 use Rattle.pl_object.specs.declared.object.Object.{Object}
 use Rattle.pl_object.proofs.AcceptedLaws.{accepted}
 use Rattle.pl_form.specs.Back.{front_of, when}
-use Rattle.pl_form.specs.Forms.{original_of}
 use Rattle.pl_form.specs.Marks.{IsFormOf}
-use Rattle.pl_form.specs.Found.{ss_of, ps_of}
+use Rattle.pl_form.specs.Found.{ss_of, d_of, tags_of, ps_of}
 use Rattle.pl_form.specs.Parts.{Original}
 use Rattle.pl_form.specs.declared.parts.Spot.{Spot}
 use Rattle.pl_form.proofs.AcceptedIs.{segments_are}
 use Rattle.pl_undo.specs.declared.undo.Undo.{Undo}
-use Rattle.pl_form.specs.Originals.{original}
+use Rattle.pl_form.specs.Originals.{IsLayoutOf}
 use Rattle.pl_lists.specs.Conflicts.{ascend, are_conflicts}
 use Rattle.pl_lists.specs.declared.conflict_row.ConflictRow.{ConflictRow}
 use Rattle.pl_lists.specs.declared.list_row.ListRow.{ListRow}
-use Rattle.pl_form.specs.Reading.{IsOwn, OwnIfAny, IsSpelledList, ListIfAny, AreSpelled, SpelledIfAny, with_conflicts, firm_object, lists_in, candidate, stamp_behind, version_in, standing, zeros_behind, places_in, is_form, checked, marked_by, IsMade, IsLayoutOf, FormIfAny}
+use Rattle.pl_form.specs.Reading.{IsOwn, OwnIfAny, IsSpelledList, ListIfAny, AreSpelled, SpelledIfAny, with_conflicts, firm_object, lists_in, candidate, stamp_behind, stamp_for, stamp_in, candidate_with, version_in, standing, zeros_behind, places_in, is_form, checked, marked_by, IsMade, FormIfAny}
 use Rattle.pl_form.specs.declared.file.Marked.{Marked}
 use Rattle.pl_form.specs.declared.layout.Layout.{Layout}
 use Rattle.pl_form.specs.declared.read.Lists.{Lists}
@@ -33,8 +33,18 @@ use Rattle.pl_form.proofs.AlignLaws.{align_some}
 pub made_align : (m : Marked) → IsMade m → 0 < m.object.align
 made_align m made = align_some m.original m.object (accepted m.original m.object made.firm.accepted)
 
-pub layout_is : (o : List ℕ) (l : Layout) → original o l ≡ original_of o → IsLayoutOf o l
-layout_is o l e = record { dynamic = ap (λ (a : Original). a.dynamic) e; spots = ap (λ (a : Original). a.spots) e; tags = ap (λ (a : Original). a.tags) e }
+pub layout_spots : (o : List ℕ) (l : Layout) → IsLayoutOf o l → l.spots ≡ ps_of o
+layout_spots o l e = ap (λ (a : Original). a.spots) e
+
+-- the stamp by a layout and by an original
+pub stamp_is : (x : Object) (o : List ℕ) (l : Layout) (front there : List ℕ) (stamp : ℕ) → IsLayoutOf o l → front ≡ there → stamp ≡ (if is_library x.kind then stamp_behind l front else 0) → stamp ≡ stamp_for x o there
+stamp_is x o l front there stamp e f is =
+    let dynamic : l.dynamic ≡ d_of o = ap (λ (a : Original). a.dynamic) e in
+    let tags : l.tags ≡ length (tags_of o) = ap (λ (a : Original). a.tags) e in
+    let table : within l.dynamic front ≡ within (d_of o) there = ap (λ (w : Window). within w front) dynamic ∙ ap (within (d_of o)) f in
+    let same : stamp_behind l front ≡ stamp_in o there =
+    ap (λ (n : ℕ). word64 (16 * n + 8) (within l.dynamic front) % 2 ^ 32) tags ∙ ap (λ (xs : List ℕ). word64 (16 * length (tags_of o) + 8) xs % 2 ^ 32) table in
+    is ∙ ap (λ (n : ℕ). if is_library x.kind then n else 0) same
 
 pub flat_is : (file o : List ℕ) (u : Undo) (x : Object) (spots : List Spot) (front flat : List ℕ) → reads o ≡ Ok x → spots ≡ ps_of o → front ≡ front_of u file
     → flat ≡ standing spots front (zeros_behind (last_load x.segments) file) → flat ≡ places_in o (front_of u file) file
@@ -91,11 +101,15 @@ pub spelled_here : (library : Bool) (file : List ℕ) (found : Option Lists) (l 
 spelled_here library file found l spelled is = subst (SpelledIfAny library file) is spelled
 
 -- what a file would be made of, by its parts
-pub candidate_is : (front : List ℕ) (u : Undo) (o : List ℕ) (x : Object) (l : Lists) (layout : Layout) (digest : List ℕ) (stamp checksum : ℕ) (v : Version) → IsLayoutOf o layout → digest ≡ sha256 o
-    → stamp ≡ (if is_library x.kind then stamp_behind layout front else 0) → checksum ≡ (if is_library x.kind then word32 0 digest else 0) → v ≡ version_in u.digest
-    → record { object = x; original = o; slot = u.slot; stamp = stamp; checksum = checksum; list = l.list; conflicts = l.conflicts; version = v } ≡ candidate front u o x l
+pub candidate_is : (u : Undo) (o : List ℕ) (x : Object) (l : Lists) (digest : List ℕ) (stamp checksum : ℕ) (v : Version) → digest ≡ sha256 o
+    → checksum ≡ (if is_library x.kind then word32 0 digest else 0) → v ≡ version_in u.digest
+    → record { object = x; original = o; slot = u.slot; stamp = stamp; checksum = checksum; list = l.list; conflicts = l.conflicts; version = v } ≡ candidate_with stamp u o x l
+candidate_is u o x l digest stamp checksum v same sums version = rw (sums, version, same) refl
+
+-- by what stands in the file
+pub candidate_here : (front : List ℕ) (u : Undo) (o : List ℕ) (x : Object) (l : Lists) (stamp : ℕ) (m : Marked) → stamp ≡ stamp_for x o front → m ≡ candidate_with stamp u o x l → m ≡ candidate front u o x l
 unfolding candidate
-candidate_is front u o x l layout digest stamp checksum v is same stamps sums version = rw (stamps, sums, version, same, is.tags, is.dynamic) refl
+candidate_here front u o x l stamp m e is = is ∙ ap (λ (n : ℕ). candidate_with n u o x l) e
 
 pub candidate_original : (front : List ℕ) (u : Undo) (o : List ℕ) (x : Object) (l : Lists) (m : Marked) → m ≡ candidate front u o x l → m.original ≡ o
 unfolding candidate

@@ -1,5 +1,5 @@
 -- Parts one after the other, and bytes inserted into others.
-use Rattle.std.proofs.Common.{◌≡◌, ℕ, ◌+◌, ◌-◌, ◌≤◌, List, [], ◌∷◌, ◌++◌, length, take, drop, replicate, refl, sym, ap, ◌∙◌, append_assoc, arith}
+use Rattle.std.proofs.Common.{◌≡◌, ℕ, zero, suc, ◌+◌, ◌-◌, ◌≤◌, List, [], ◌∷◌, ◌++◌, length, take, drop, replicate, refl, sym, ap, ◌∙◌, append_assoc, arith}
 use Rattle.std.proofs.lemmas.List.{length-append, length-take-le, length-drop, take_at, append-nil, take-append-drop}
 use Rattle.pl_base.specs.Bytes.{part}
 use Rattle.pl_base.specs.Windows.{gap, ◌⊕◌}
@@ -98,3 +98,30 @@ inserted_back cut shift size more front tail n le m =
     ap (λ (k : ℕ). part (cut + k) (size - cut) (inserted cut more front ++ tail)) (sym m) ∙ moved
     ∙ ap (take (size - cut)) (sym (append-nil (drop cut front))) ∙ take_at (drop cut front) [] (size - cut) (length-drop cut front ∙ omega (arith, n)) in
     rw (left, rest) (take-append-drop cut front)
+
+-- a part of two lists, one after the other
+drop_both : (n : ℕ) (xs ys : List ℕ) → drop n (xs ++ ys) ≡ drop n xs ++ drop (n - length xs) ys
+drop_both zero xs ys = let e : 0 ≡ 0 - length xs = omega arith in ap (λ (k : ℕ). xs ++ drop k ys) e
+drop_both (suc n) [] ys = let e : suc n ≡ suc n - 0 = omega arith in ap (λ (k : ℕ). drop k ys) e
+drop_both (suc n) (x ∷ xs) ys =
+    let e : n - length xs ≡ suc n - length (x ∷ xs) = omega arith in
+    drop_both n xs ys ∙ ap (λ (k : ℕ). drop n xs ++ drop k ys) e
+
+take_both : (n : ℕ) (xs ys : List ℕ) → take n (xs ++ ys) ≡ take n xs ++ take (n - length (take n xs)) ys
+take_both zero xs ys = refl
+take_both (suc n) [] ys = let e : suc n ≡ suc n - 0 = omega arith in ap (λ (k : ℕ). take k ys) e
+take_both (suc n) (x ∷ xs) ys =
+    let e : n - length (take n xs) ≡ suc n - length (x ∷ take n xs) = omega arith in
+    ap (λ (zs : List ℕ). x ∷ zs) (take_both n xs ys ∙ ap (λ (k : ℕ). take n xs ++ take k ys) e)
+
+part_both : (at size : ℕ) (xs ys : List ℕ) → part at size (xs ++ ys) ≡ part at size xs ++ part (at - length xs) (size - length (part at size xs)) ys
+part_both at size xs ys = ap (take size) (drop_both at xs ys) ∙ take_both size (drop at xs) (drop (at - length xs) ys)
+
+-- what is added in two steps
+pub part_added_twice : (at size from rest : ℕ) (xs ys first second old mid new : List ℕ) → first ≡ part at size xs → from ≡ at - length xs → rest ≡ size - length first → second ≡ part from rest ys
+    → mid ≡ old ++ first → new ≡ mid ++ second → new ≡ old ++ part at size (xs ++ ys)
+part_added_twice at size from rest xs ys first second old mid new a b e f g h =
+    let r : rest ≡ size - length (part at size xs) = e ∙ ap (λ (zs : List ℕ). size - length zs) a in
+    let s : second ≡ part (at - length xs) (size - length (part at size xs)) ys = f ∙ ap (λ (k : ℕ). part k rest ys) b ∙ ap (λ (k : ℕ). part (at - length xs) k ys) r in
+    h ∙ ap (λ (zs : List ℕ). zs ++ second) g ∙ append_assoc old first second
+    ∙ ap (λ (zs : List ℕ). old ++ (zs ++ second)) a ∙ ap (λ (zs : List ℕ). old ++ (part at size xs ++ zs)) s ∙ ap (λ (zs : List ℕ). old ++ zs) (sym (part_both at size xs ys))

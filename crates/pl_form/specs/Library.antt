@@ -13,13 +13,19 @@ use Rattle.pl_form.specs.declared.parts.Listed.{Listed}
 use Rattle.pl_form.specs.Extending.{HasNames}
 use Rattle.pl_form.specs.Faults.{IsFirm}
 use Rattle.pl_form.specs.Words.{listed, all_filled, checksum_of, digest_in}
+use Rattle.pl_form.specs.Originals.{AreFoundIn}
 use Rattle.pl_form.specs.declared.layout.Layout.{Layout}
+use Rattle.pl_form.specs.declared.layout.Source.{Source}
 use Rattle.pl_form.specs.declared.version.Version.{Version}
 
 -- by the bytes at all places
 unfoldable pub library_with : List ℕ → ℕ → ℕ → List ListRow → List ℕ → Version → List ℕ
 library_with o slot stamp list flat version =
     forms.form_of_library (original_of o) slot stamp (checksum_of o) (listed list) flat (digest_in version o)
+
+-- the same by its checksum and by the strings and the table of its list
+abbrev pub moved : List ℕ → ℕ → ℕ → ℕ → Listed → List ℕ → Version → List ℕ
+moved o slot stamp checksum l flat version = forms.form_of_library (original_of o) slot stamp checksum l flat (digest_in version o)
 
 -- by the words at the places
 abbrev pub library_form : List ℕ → ℕ → ℕ → List ListRow → List (Option ℕ) → Version → List ℕ
@@ -40,6 +46,11 @@ pub record IsMovable (bytes : List ℕ) (x : Object) (l : Layout) : Type 0 where
 pub record IsFirmLibrary (o : List ℕ) (x : Object) : Type 0 where
   pub firm : IsFirm o x
   pub library : is_library x.kind ≡ true
+
+-- such a library with its layout and its SHA-256
+pub record IsLibrarySource (s : Source) : Type 0 where
+  pub firm : IsFirmLibrary s.original.now s.object.now
+  pub found : AreFoundIn s.original.now s.layout.now s.digest.now
 
 -- a list that is spelled, whose names have together fewer than 2^30 bytes
 pub record IsListing (list : List ListRow) : Type 0 where

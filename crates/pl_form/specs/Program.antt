@@ -19,6 +19,8 @@ use Rattle.pl_form.specs.declared.constants.TheConstants.{STORED}
 use Rattle.pl_form.specs.declared.fault.FormFault.{FormFault}
 use Rattle.pl_form.specs.declared.fault.FormFault.TheVariants.{TooLarge}
 use Rattle.pl_form.specs.declared.file.Fill.{Fill}
+use Rattle.pl_form.specs.Originals.{AreFoundIn}
+use Rattle.pl_form.specs.declared.layout.Source.{Source}
 use Rattle.pl_form.specs.declared.program.Last.{Last}
 use Rattle.pl_form.specs.declared.version.Version.{Version}
 
@@ -61,3 +63,8 @@ stored form = unless (nat_lt STORED (length form)) TooLarge (Ok form)
 pub record IsFirmProgram (o : List ℕ) (x : Object) : Type 0 where
   pub firm : IsFirm o x
   pub program : is_program x.kind ≡ true
+
+-- such a program with its layout and its SHA-256
+pub record IsProgramSource (s : Source) : Type 0 where
+  pub firm : IsFirmProgram s.original.now s.object.now
+  pub found : AreFoundIn s.original.now s.layout.now s.digest.now

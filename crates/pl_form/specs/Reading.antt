@@ -24,6 +24,7 @@ use Rattle.pl_form.specs.declared.parts.Spot.{Spot}
 use Rattle.pl_undo.specs.declared.undo.Undo.{Undo}
 use Rattle.pl_form.specs.Faults.{form_fault, no_region, IsFirm}
 use Rattle.pl_form.specs.Marks.{has_mark, form_with, IsFormOf}
+use Rattle.pl_form.specs.Originals.{IsLayoutOf}
 use Rattle.pl_form.specs.Words.{checksum_of}
 use Rattle.pl_form.specs.declared.constants.TheConstants.{STORED}
 use Rattle.pl_form.specs.declared.file.Marked.{Marked}
@@ -109,13 +110,6 @@ abbrev pub SpelledIfAny : Bool → List ℕ → Option Lists → Type 0
 SpelledIfAny library file None = Unit {0}
 SpelledIfAny library file (Some l) = AreSpelled library file l
 
--- ---- where a form changes an original
-
-pub record IsLayoutOf (o : List ℕ) (l : Layout) : Type 0 where
-  pub dynamic : l.dynamic ≡ d_of o
-  pub spots : l.spots ≡ ps_of o
-  pub tags : l.tags ≡ length (tags_of o)
-
 -- ---- the bytes at the places
 
 -- those in the file, and those in the zeros of the last PT_LOAD
@@ -150,18 +144,26 @@ stamp_in o front = word64 (16 * length (tags_of o) + 8) (within (d_of o) front) 
 abbrev pub stamp_behind : Layout → List ℕ → ℕ
 stamp_behind l front = word64 (16 * l.tags + 8) (within l.dynamic front) % 2 ^ 32
 
--- all that a file would be made of whose front is this
-unfoldable pub candidate : List ℕ → Undo → List ℕ → Object → Lists → Marked
-candidate front u o x l = record {
+-- that of a library, 0 for a program
+abbrev pub stamp_for : Object → List ℕ → List ℕ → ℕ
+stamp_for x o front = if is_library x.kind then stamp_in o front else 0
+
+-- all that a file would be made of that has this stamp
+abbrev pub candidate_with : ℕ → Undo → List ℕ → Object → Lists → Marked
+candidate_with stamp u o x l = record {
   object = x;
   original = o;
   slot = u.slot;
-  stamp = if is_library x.kind then stamp_in o front else 0;
+  stamp = stamp;
   checksum = if is_library x.kind then checksum_of o else 0;
   list = l.list;
   conflicts = l.conflicts;
   version = version_in u.digest;
 }
+
+-- all that a file would be made of whose front is this
+unfoldable pub candidate : List ℕ → Undo → List ℕ → Object → Lists → Marked
+candidate front u o x l = candidate_with (stamp_for x o front) u o x l
 
 -- whether the slot is one that such an object may have
 unfoldable pub is_placed : Marked → Bool
@@ -221,7 +223,7 @@ FormIfAny file (Some m) = IsFormOf file m
 pub record AreContentsOf (file : List ℕ) (u : Undo) (o : List ℕ) (x : Object) (p : Contents) : Type 0 where
   pub lists : AreSpelled (is_library x.kind) file p.lists
   pub layout : IsLayoutOf o p.standing.layout
-  pub front : p.standing.front.items ≡ front_of u file
+  pub stamp : p.standing.stamp ≡ stamp_for x o (front_of u file)
   pub flat : p.standing.flat.items ≡ places_in o (front_of u file) file
   pub found : Some p.lists ≡ lists_in (is_library x.kind) file
 

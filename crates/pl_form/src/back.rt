@@ -1,5 +1,6 @@
 // The original that a file's undo section brings back.
-ghost use Rattle.std.specs.Prelude.{◌≡◌, ◌+◌, ◌-◌, ◌*◌, ◌^◌, ◌<◌, ◌==◌, ◌++◌, ◌∷◌, [], length, nat_le, IfOk, Some};
+ghost use Rattle.std.specs.Prelude.{◌≡◌, ◌+◌, ◌-◌, ◌*◌, ◌^◌, ◌<◌, ◌==◌, ◌++◌, ◌∷◌, [], length, nat_le, IfOk, OnOk, Some};
+ghost use Rattle.pl_base.specs.Bytes.{part};
 ghost use Rattle.pl_base.specs.Windows as windows;
 ghost use Rattle.pl_elf.specs.Headers as headers;
 ghost use Rattle.pl_move.specs.Moves.{all_back, table_window, table_windows};
@@ -23,6 +24,7 @@ use pl_move::{Table, move_tables_back};
 use pl_object::Window;
 use pl_undo::{Undo, UndoFault, read_undo};
 use std::alloc::{AllocError, Global};
+use std::marker::Model;
 
 /// Where the section header of a file's undo section is, two before the end of the table.
 fn undo_row(header: &Header) -> Window
@@ -71,15 +73,54 @@ pub fn find_undo(alloc: Global, file: &[u8]) -> Result<Option<Undo>, AllocError>
     }
 }
 
-/// The bytes that stand where the original's stood: those before cut, and those behind the inserted ones, as far as there are any.
-pub fn front_of(alloc: Global, undo: &Undo, file: &[u8]) -> Result<Vec<u8>, AllocError>
-    ensures { IfOk result (λ v. v.items ≡ back.front_of undo.now file.now) }
-{
-    let behind = end(undo.cut, undo.shift);
-    let rest = undo.length.saturating_sub(undo.cut);
-    let mut front = Vec::from_slice(alloc, part(file, 0, undo.cut))?;
-    front.extend_from_slice(part(file, behind, rest))?;
-    Ok(front)
+/// The bytes that stand where the original's stood: those before the inserted ones, and those behind them, as far as there are any. Contracts see it as these bytes, one part after the other.
+#[derive(Drop)]
+pub struct Front<'f> {
+    before: &'f [u8],
+    behind: &'f [u8],
+}
+
+impl<'f> Model for Front<'f> {
+    ghost use Rattle.std.specs.Prelude.{ℕ, List, ◌++◌};
+
+    ghost Value = { List ℕ };
+
+    ghost view = { λ f. f.before.now ++ f.behind.now };
+}
+
+impl<'f> Front<'f> {
+    /// The bytes that stand in a file where the original's stood that its undo section brings back.
+    pub fn of(undo: &Undo, file: &'f [u8]) -> Front<'f>
+        ensures { result ≡ back.front_of undo.now file.now }
+    {
+        let behind = end(undo.cut, undo.shift);
+        let rest = undo.length.saturating_sub(undo.cut);
+        Front {
+            before: part(file, 0, undo.cut),
+            behind: part(file, behind, rest),
+        }
+    }
+
+    /// Adds so many of the bytes from an offset on, as far as there are any.
+    pub fn push_part(&self, out: &mut Vec<u8>, at: u128, size: u64) -> Result<(), AllocError>
+        ensures { OnOk result (out.new.items ≡ out.old.items ++ part at size self.now) }
+    {
+        let first = part(self.before, at, size);
+        out.extend_from_slice(first)?;
+        let rest = size.saturating_sub(first.len() as u64);
+        let from = at.saturating_sub(self.before.len() as u128);
+        out.extend_from_slice(part(self.behind, from, rest))
+    }
+
+    /// A copy of the bytes.
+    fn to_vec(&self, alloc: Global) -> Result<Vec<u8>, AllocError>
+        ensures { IfOk result (λ v. v.items ≡ self.now) }
+    {
+        let mut front = Vec::with_capacity(alloc, self.before.len() + self.behind.len())?;
+        front.extend_from_slice(self.before)?;
+        front.extend_from_slice(self.behind)?;
+        Ok(front)
+    }
 }
 
 /// Headers that are stored in an undo section, taken apart.
@@ -323,7 +364,7 @@ pub fn restored(alloc: Global, undo: &Undo, file: &[u8]) -> Result<Option<Rows<u
     if !fits_file(file.len(), undo) {
         return Ok(None);
     }
-    let front = front_of(alloc, undo, file)?;
+    let front = Front::of(undo, file).to_vec(alloc)?;
     let stored = stored_headers(alloc, undo.headers.as_slice())?;
     original_by(alloc, undo, &stored, front)
 }

@@ -3,12 +3,12 @@ ghost use Rattle.std.specs.Prelude.{◌≡◌, ◌%◌, length, true, false, IfO
 ghost use Rattle.pl_elf.specs.Kinds.{is_library};
 ghost use Rattle.pl_form.specs.Back.{wanted};
 ghost use Rattle.pl_form.specs.Found.{ps_of};
+ghost use Rattle.pl_form.specs.Originals.{AreFoundIn};
 ghost use Rattle.pl_form.specs.Reading.{FormWithIfAny, IsMade};
-ghost use Rattle.sha2.specs.Sha256.{sha256};
 
 use crate::library_form::library_with;
 use crate::program_form::program_with;
-use crate::{FormFault, Marked, STORED};
+use crate::{FormFault, Layout, Marked, STORED, Source};
 use std::alloc::{AllocError, Global};
 
 /// The form of a library.
@@ -16,26 +16,31 @@ use std::alloc::{AllocError, Global};
 fn of_library(
     alloc: Global,
     marked: &Marked,
+    layout: &Layout,
     flat: &[u8],
     digest: &[u8; 32],
 ) -> Result<Option<Vec<u8>>, AllocError>
     requires made { IsMade marked.now }
-    requires digest { digest.now ≡ sha256 marked.now.original }
+    requires found { AreFoundIn marked.now.original layout.now digest.now }
     requires library { is_library marked.now.object.kind ≡ true }
     requires even { marked.now.slot % 2 ≡ 0 }
     requires filled { length flat.now ≡ wanted (ps_of marked.now.original) }
     ensures { IfOk result (FormWithIfAny marked.now flat.now) }
 {
+    let source = Source {
+        original: marked.original.as_slice(),
+        object: &marked.object,
+        layout,
+        digest,
+    };
     let Ok(form) = library_with(
         alloc,
-        marked.original.as_slice(),
-        &marked.object,
+        &source,
         marked.slot,
         marked.stamp,
         marked.list.as_slice(),
         flat,
         marked.version,
-        digest,
     ) else {
         return Err(AllocError);
     };
@@ -50,24 +55,29 @@ fn of_library(
 fn of_program(
     alloc: Global,
     marked: &Marked,
+    layout: &Layout,
     flat: &[u8],
     digest: &[u8; 32],
 ) -> Result<Option<Vec<u8>>, AllocError>
     requires made { IsMade marked.now }
-    requires digest { digest.now ≡ sha256 marked.now.original }
+    requires found { AreFoundIn marked.now.original layout.now digest.now }
     requires program { is_library marked.now.object.kind ≡ false }
     requires filled { length flat.now ≡ wanted (ps_of marked.now.original) }
     ensures { IfOk result (FormWithIfAny marked.now flat.now) }
 {
+    let source = Source {
+        original: marked.original.as_slice(),
+        object: &marked.object,
+        layout,
+        digest,
+    };
     match program_with(
         alloc,
-        marked.original.as_slice(),
-        &marked.object,
+        &source,
         marked.list.as_slice(),
         flat,
         marked.conflicts.as_slice(),
         marked.version,
-        digest,
     ) {
         Ok(form) => Ok(Some(form)),
         Err(FormFault::TooLarge) => Ok(None),
@@ -79,18 +89,19 @@ fn of_program(
 pub fn form_with(
     alloc: Global,
     marked: &Marked,
+    layout: &Layout,
     flat: &[u8],
     digest: &[u8; 32],
 ) -> Result<Option<Vec<u8>>, AllocError>
     requires made { IsMade marked.now }
-    requires digest { digest.now ≡ sha256 marked.now.original }
+    requires found { AreFoundIn marked.now.original layout.now digest.now }
     requires even { is_library marked.now.object.kind ≡ true → marked.now.slot % 2 ≡ 0 }
     requires filled { length flat.now ≡ wanted (ps_of marked.now.original) }
     ensures { IfOk result (FormWithIfAny marked.now flat.now) }
 {
     if marked.object.kind.is_library() {
-        of_library(alloc, marked, flat, digest)
+        of_library(alloc, marked, layout, flat, digest)
     } else {
-        of_program(alloc, marked, flat, digest)
+        of_program(alloc, marked, layout, flat, digest)
     }
 }

@@ -1,7 +1,7 @@
 use crate::Spot;
 use pl_base::Rows;
 use pl_move::Table;
-use pl_object::Window;
+use pl_object::{Object, Window};
 
 /// Where a form changes an original.
 #[derive(Drop)]
@@ -17,4 +17,13 @@ pub struct Layout {
 
     /// How many entries the dynamic table has before the first of tag DT_NULL.
     pub tags: u64,
+}
+
+/// What a form is made from: an accepted original's bytes, the object that it is, where a form changes it, and its SHA-256.
+#[derive(Clone, Copy)]
+pub struct Source<'o> {
+    pub original: &'o [u8],
+    pub object: &'o Object,
+    pub layout: &'o Layout,
+    pub digest: &'o [u8; 32],
 }

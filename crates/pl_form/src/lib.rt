@@ -39,7 +39,7 @@ pub use digests::original_digest;
 pub use fault::{FileFault, FormFault};
 pub use file::{Entry, File, Fill, Marked};
 pub use law::{files_are_told, forms_have_one_original};
-use layout::Layout;
+use layout::{Layout, Source};
 pub use library_form::{digest_of, form_library, form_library_with};
 use mark::Mark;
 pub use part_laws::{forms_are_undone, forms_bear_segments, forms_hold_fills, forms_load_alike};

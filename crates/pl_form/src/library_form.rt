@@ -5,13 +5,11 @@ ghost use Rattle.pl_base.specs.Windows.{AllIn};
 ghost use Rattle.pl_lists.specs.Lists as lists;
 ghost use Rattle.pl_object.specs.Accepted.{HasHead};
 ghost use Rattle.pl_form.specs.Back as back;
-ghost use Rattle.pl_form.specs.Forms as forms;
-ghost use Rattle.pl_form.specs.Forms.{original_of};
 ghost use Rattle.pl_form.specs.PartLaws.{IsDigest};
 ghost use Rattle.pl_form.specs.Found.{ps_of};
 ghost use Rattle.pl_form.specs.Library as spec;
 ghost use Rattle.pl_form.specs.Words as words_spec;
-ghost use Rattle.pl_form.specs.Originals.{original};
+ghost use Rattle.pl_form.specs.Originals.{IsLayoutOf};
 ghost use Rattle.sha2.specs.Sha256.{sha256};
 
 use crate::bytes::split;
@@ -19,7 +17,7 @@ use crate::found::{dynamic_in, moved_tables, spots_in};
 use crate::library::library_plan;
 use crate::places::{push_memory, push_zeros};
 use crate::write::write_planned;
-use crate::{Layout, Listed, Mark, Spot, Version};
+use crate::{Layout, Listed, Mark, Source, Spot, Version};
 use pl_base::{Rows, part, word32};
 use pl_dyn::read_tags;
 use pl_io::NoMemory;
@@ -32,7 +30,7 @@ use std::alloc::{AllocError, Global};
 pub fn layout_of(alloc: Global, bytes: &[u8], object: &Object) -> Result<Layout, AllocError>
     requires head { HasHead bytes.now object.now }
     requires few { length bytes.now < 2 ^ 32 }
-    ensures { IfOk result (λ layout. original bytes.now layout ≡ original_of bytes.now) }
+    ensures { IfOk result (IsLayoutOf bytes.now) }
 {
     let segments = object.segments.as_slice();
     let sections = object.sections.as_slice();
@@ -165,47 +163,50 @@ fn check_list(listed: &Listed) -> Result<(), NoMemory>
 /// The form of an accepted library by what it bears, with these bytes at its places.
 fn moved(
     alloc: Global,
-    original: &[u8],
-    object: &Object,
+    source: &Source<'_>,
     mark: &Mark,
     listed: Listed,
     flat: &[u8],
-    digest: Option<[u8; 32]>,
+    version: Version,
 ) -> Result<Vec<u8>, NoMemory>
-    requires firm { spec.IsFirmLibrary original.now object.now }
+    requires source { spec.IsLibrarySource source.now }
     requires slot { spec.IsEven mark.now.slot }
     requires list { spec.IsShortList listed }
-    requires flat { length flat.now ≡ back.wanted (ps_of original.now) }
-    requires digest { IsDigest digest }
-    ensures { IfOk result (λ v. v.items ≡ forms.form_of_library (original_of original.now)
-        mark.now.slot mark.now.stamp mark.now.checksum listed flat.now digest) }
+    requires flat { length flat.now ≡ back.wanted (ps_of source.now.original.now) }
+    ensures { IfOk result (λ v. v.items ≡ spec.moved source.now.original.now
+        mark.now.slot mark.now.stamp mark.now.checksum listed flat.now version) }
 {
-    let layout = layout_of(alloc, original, object)?;
-    let plan = library_plan(alloc, original, object, &layout, mark, listed)?;
-    write_planned(alloc, original, &layout, &plan, flat, digest)
+    let plan = library_plan(
+        alloc,
+        source.original,
+        source.object,
+        source.layout,
+        mark,
+        listed,
+    )?;
+    let kept = kept_digest(version, *source.digest);
+    write_planned(alloc, source.original, source.layout, &plan, flat, kept)
 }
 
-/// The form of an accepted library of this SHA-256 with these bytes at its places, one place after the other in the order of the relocations.
+/// The form of an accepted library with these bytes at its places, one place after the other in the order of the relocations.
 pub fn library_with(
     alloc: Global,
-    original: &[u8],
-    object: &Object,
+    source: &Source<'_>,
     slot: u64,
     stamp: u32,
     list: &[ListRow],
     flat: &[u8],
     version: Version,
-    digest: &[u8; 32],
 ) -> Result<Vec<u8>, NoMemory>
-    requires firm { spec.IsFirmLibrary original.now object.now }
+    requires source { spec.IsLibrarySource source.now }
     requires even { slot % 2 ≡ 0 }
     requires list { spec.IsListing list.now }
-    requires flat { length flat.now ≡ back.wanted (ps_of original.now) }
-    requires digest { digest.now ≡ sha256 original.now }
-    ensures form { IfOk result (λ v. v.items ≡ spec.library_with original.now slot stamp list.now
-        flat.now version) }
-    ensures size { IfOk result (spec.IsShortForm original.now list.now) }
+    requires flat { length flat.now ≡ back.wanted (ps_of source.now.original.now) }
+    ensures form { IfOk result (λ v. v.items ≡ spec.library_with source.now.original.now slot stamp
+        list.now flat.now version) }
+    ensures size { IfOk result (spec.IsShortForm source.now.original.now list.now) }
 {
+    let digest = source.digest;
     let checksum = word32(digest, 0);
     let mark = Mark {
         slot,
@@ -214,24 +215,8 @@ pub fn library_with(
     };
     let lists = listed(alloc, list)?;
     check_list(&lists)?;
-    let kept = kept_digest(version, *digest);
-    let form = moved(alloc, original, object, &mark, lists, flat, kept)?;
+    let form = moved(alloc, source, &mark, lists, flat, version)?;
     Ok(form)
-}
-
-/// The bytes at the places of an accepted library, by a word for each of the first of them.
-fn filled_places(
-    alloc: Global,
-    original: &[u8],
-    object: &Object,
-    words: &[Option<u64>],
-) -> Result<Vec<u8>, AllocError>
-    requires { spec.IsFirmLibrary original.now object.now }
-    ensures { IfOk result (λ v. v.items ≡ words_spec.all_filled original.now (ps_of original.now)
-        words.now) }
-{
-    let layout = layout_of(alloc, original, object)?;
-    all_filled(alloc, original, layout.spots.as_slice(), words)
 }
 
 /// The form that `form_library` gives, where the caller has the SHA-256 of the original.
@@ -255,10 +240,15 @@ pub fn form_library_with(
         words.now version) }
     ensures size { IfOk result (spec.IsShortForm original.now list.now) }
 {
-    let flat = filled_places(alloc, original, object, words)?;
-    library_with(
-        alloc, original, object, slot, stamp, list, &flat, version, digest,
-    )
+    let layout = layout_of(alloc, original, object)?;
+    let flat = all_filled(alloc, original, layout.spots.as_slice(), words)?;
+    let source = Source {
+        original,
+        object,
+        layout: &layout,
+        digest,
+    };
+    library_with(alloc, &source, slot, stamp, list, &flat, version)
 }
 
 /// The form of an accepted library: its bytes moved by a slot, with a word or the original's bytes at each place, its stamp and its checksum in the dynamic table, and behind them the library list, the undo section, the section names and the section headers.

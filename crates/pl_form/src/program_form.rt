@@ -14,7 +14,7 @@ use crate::constants::STORED;
 use crate::library_form::{digest_of, kept_digest, layout_of};
 use crate::program::{Last, program_plan};
 use crate::write::write_planned;
-use crate::{Extension, Fill, FormFault, Version};
+use crate::{Extension, Fill, FormFault, Source, Version};
 use pl_base::{Rows, part};
 use pl_elf::Segment;
 use pl_io::NoMemory;
@@ -90,59 +90,61 @@ fn find_last(segments: &[Segment]) -> Option<Last>
     None
 }
 
-/// The form of a program of this SHA-256 with these bytes at its places.
+/// The form of a program with these bytes at its places.
 fn extended(
     alloc: Global,
-    original: &[u8],
-    object: &Object,
+    source: &Source<'_>,
     lists: &Extension,
     flat: &[u8],
     version: Version,
-    digest: &[u8; 32],
 ) -> Result<Vec<u8>, NoMemory>
-    requires firm { spec.IsFirmProgram original.now object.now }
-    requires digest { digest.now ≡ sha256 original.now }
-    requires flat { length flat.now ≡ wanted (ps_of original.now) }
+    requires source { spec.IsProgramSource source.now }
+    requires flat { length flat.now ≡ wanted (ps_of source.now.original.now) }
     requires lists { length lists.now.strings + (length lists.now.rows + length lists.now.conflicts)
         ≤ STORED }
-    ensures { IfOk result (λ v. v.items ≡ spec.extended original.now lists.now flat.now version) }
+    ensures { IfOk result (λ v. v.items ≡ spec.extended source.now.original.now lists.now flat.now
+        version) }
 {
-    let Some(last) = find_last(object.segments.as_slice()) else {
+    let Some(last) = find_last(source.object.segments.as_slice()) else {
         return Ok(Vec::new(alloc));
     };
-    let layout = layout_of(alloc, original, object)?;
-    let plan = program_plan(alloc, original, object, &layout, &last, flat, lists)?;
-    let kept = kept_digest(version, *digest);
-    write_planned(alloc, original, &layout, &plan, flat, kept)
+    let plan = program_plan(
+        alloc,
+        source.original,
+        source.object,
+        source.layout,
+        &last,
+        flat,
+        lists,
+    )?;
+    let kept = kept_digest(version, *source.digest);
+    write_planned(alloc, source.original, source.layout, &plan, flat, kept)
 }
 
-/// The form of an accepted program of this SHA-256 with these bytes at its places, one place after the other in the order of the relocations.
+/// The form of an accepted program with these bytes at its places, one place after the other in the order of the relocations.
 ///
 /// The program was accepted from these bytes and has no form fault other than InRegion. TooLarge comes exactly where the form has more than 256 MiB.
 pub fn program_with(
     alloc: Global,
-    original: &[u8],
-    object: &Object,
+    source: &Source<'_>,
     list: &[ListRow],
     flat: &[u8],
     conflicts: &[ConflictRow],
     version: Version,
-    digest: &[u8; 32],
 ) -> Result<Vec<u8>, FormFault>
-    requires firm { spec.IsFirmProgram original.now object.now }
-    requires digest { digest.now ≡ sha256 original.now }
-    requires flat { length flat.now ≡ wanted (ps_of original.now) }
-    ensures { AnswersAs (λ v. v.items) fault_spec.is_memory result
-        (spec.stored (spec.program_with original.now list.now flat.now conflicts.now version)) }
+    requires source { spec.IsProgramSource source.now }
+    requires flat { length flat.now ≡ wanted (ps_of source.now.original.now) }
+    ensures { AnswersAs (λ v. v.items) fault_spec.is_memory result (spec.stored
+        (spec.program_with source.now.original.now list.now flat.now conflicts.now version)) }
 {
     if has_long_names(list) {
         return Err(FormFault::TooLarge);
     }
-    let lists = extension_of(alloc, original, object, list, conflicts)?;
+    let lists = extension_of(alloc, source.original, source.object, list, conflicts)?;
     if are_too_long(&lists) {
         return Err(FormFault::TooLarge);
     }
-    let form = extended(alloc, original, object, &lists, flat, version, digest)?;
+    let form = extended(alloc, source, &lists, flat, version)?;
     if form.len() > STORED {
         return Err(FormFault::TooLarge);
     }
@@ -192,9 +194,14 @@ pub fn form_program_with(
         (spec.stored (spec.program_form original.now list.now fills.items conflicts.now version)) }
 {
     let flat = flat_from(alloc, fills)?;
-    program_with(
-        alloc, original, object, list, &flat, conflicts, version, digest,
-    )
+    let layout = layout_of(alloc, original, object)?;
+    let source = Source {
+        original,
+        object,
+        layout: &layout,
+        digest,
+    };
+    program_with(alloc, &source, list, &flat, conflicts, version)
 }
 
 /// The form of an accepted program: its bytes with those of the fills at the places, and behind the last PT_LOAD's memory the dynamic strings with the list's names, the library list and the conflicts; then what followed in the file, the undo section, the section names and the section headers.
@@ -216,7 +223,12 @@ pub fn form_program(
 {
     let digest = digest_of(original);
     let flat = flat_of(alloc, fills)?;
-    program_with(
-        alloc, original, object, list, &flat, conflicts, version, &digest,
-    )
+    let layout = layout_of(alloc, original, object)?;
+    let source = Source {
+        original,
+        object,
+        layout: &layout,
+        digest: &digest,
+    };
+    program_with(alloc, &source, list, &flat, conflicts, version)
 }

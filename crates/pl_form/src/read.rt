@@ -5,12 +5,12 @@ ghost use Rattle.pl_elf.specs.Kinds.{is_library};
 ghost use Rattle.pl_lists.specs.Reading.{list_of, conflicts_of};
 ghost use Rattle.pl_object.specs.PlaceClauses.{last_load};
 ghost use Rattle.pl_form.specs.Back.{front_of, has_undo_section, when};
-ghost use Rattle.pl_form.specs.Found.{ps_of};
 ghost use Rattle.pl_form.specs.Marks.{IsFormOf};
+ghost use Rattle.pl_form.specs.Originals.{AreFoundIn, IsLayoutOf};
 ghost use Rattle.pl_form.specs.Reading as spec;
 ghost use Rattle.sha2.specs.Sha256.{sha256};
 
-use crate::back::{are_filled, find_undo, front_of, restored};
+use crate::back::{Front, are_filled, find_undo, restored};
 use crate::form_with::form_with;
 use crate::found::word_or_zeros;
 use crate::has_mark::has_mark;
@@ -66,10 +66,17 @@ fn firm_object(alloc: Global, bytes: &[u8]) -> Result<Option<Object>, AllocError
         Err(Refusal::NoMemory) => return Err(AllocError),
         Err(Refusal::Clause { .. }) => return Ok(None),
     };
-    if !is_firm(alloc, bytes, &object)? {
-        return Ok(None);
+    match is_firm(alloc, bytes, &object) {
+        Ok(true) => Ok(Some(object)),
+        Ok(false) => {
+            drop(object);
+            Ok(None)
+        }
+        Err(fault) => {
+            drop(object);
+            Err(fault)
+        }
     }
-    Ok(Some(object))
 }
 
 /// The bytes of the section so many rows before the end of the section header table.
@@ -165,14 +172,14 @@ fn zeros_behind<'a>(object: &Object, file: &'a [u8]) -> &'a [u8]
 fn push_standing(
     flat: &mut Vec<u8>,
     spot: &Spot,
-    front: &[u8],
+    front: &Front<'_>,
     zeros: &[u8],
 ) -> Result<(), AllocError>
     ensures { OnOk result (flat.new.items ≡ flat.old.items
         ++ part spot.now.at spot.now.size front.now
         ++ part spot.now.behind spot.now.hidden zeros.now) }
 {
-    flat.extend_from_slice(part(front, spot.at, spot.size))?;
+    front.push_part(flat, spot.at, spot.size)?;
     flat.extend_from_slice(part(zeros, spot.behind, spot.hidden))
 }
 
@@ -180,7 +187,7 @@ fn push_standing(
 fn standing(
     alloc: Global,
     spots: &[Spot],
-    front: &[u8],
+    front: &Front<'_>,
     zeros: &[u8],
 ) -> Result<Vec<u8>, AllocError>
     ensures { IfOk result (λ v. v.items ≡ spec.standing spots.now front.now zeros.now) }
@@ -202,22 +209,28 @@ fn version_in(digest: &Option<[u8; DIGEST_SIZE]>) -> Version
 }
 
 /// The stamp that stands in the first entry behind the tags.
-fn stamp_in(layout: &Layout, front: &[u8]) -> u32
-    ensures { result ≡ spec.stamp_behind layout.now front.now }
+fn stamp_in(alloc: Global, layout: &Layout, front: &Front<'_>) -> Result<u32, AllocError>
+    ensures { IfOk result (λ s. s ≡ spec.stamp_behind layout.now front.now) }
 {
-    let table = part(front, layout.dynamic.at(), layout.dynamic.size());
-    (word_or_zeros(table, 16 * u128::from(layout.tags) + 8) % 4_294_967_296) as u32
+    let mut table = Vec::new(alloc);
+    front.push_part(&mut table, layout.dynamic.at(), layout.dynamic.size())?;
+    Ok((word_or_zeros(&table, 16 * u128::from(layout.tags) + 8) % 4_294_967_296) as u32)
 }
 
 /// The stamp of a library, 0 for a program.
-fn stamp_for(object: &Object, layout: &Layout, front: &[u8]) -> u32
-    ensures { result ≡ (if is_library object.now.kind
-        then spec.stamp_behind layout.now front.now else 0) }
+fn stamp_for(
+    alloc: Global,
+    object: &Object,
+    layout: &Layout,
+    front: &Front<'_>,
+) -> Result<u32, AllocError>
+    ensures { IfOk result (λ s. s ≡ (if is_library object.now.kind
+        then spec.stamp_behind layout.now front.now else 0)) }
 {
     if object.kind.is_library() {
-        stamp_in(layout, front)
+        stamp_in(alloc, layout, front)
     } else {
-        0
+        Ok(0)
     }
 }
 
@@ -232,21 +245,18 @@ fn checksum_in(object: &Object, digest: &[u8; 32]) -> u32
     }
 }
 
-/// All that a file would be made of whose front is this, by an original of this SHA-256.
+/// All that a file would be made of that has this stamp, by an original of this SHA-256.
 fn candidate(
     undo: &Undo,
     original: Rows<u8>,
     object: Object,
-    layout: &Layout,
+    stamp: u32,
     lists: Lists,
-    front: &[u8],
     digest: &[u8; 32],
 ) -> Marked
-    requires layout { spec.IsLayoutOf original layout.now }
-    requires digest { digest.now ≡ sha256 original }
-    ensures { result ≡ spec.candidate front.now undo.now original object lists }
+    requires { digest.now ≡ sha256 original }
+    ensures { result ≡ spec.candidate_with stamp undo.now original object lists }
 {
-    let stamp = stamp_for(&object, layout, front);
     let checksum = checksum_in(&object, digest);
     let Lists { list, conflicts } = lists;
     Marked {
@@ -290,20 +300,19 @@ fn is_form(
     alloc: Global,
     file: &[u8],
     marked: &Marked,
-    spots: &[Spot],
+    layout: &Layout,
     flat: &[u8],
     digest: &[u8; 32],
 ) -> Result<bool, AllocError>
     requires file { length file.now ≤ STORED }
     requires made { spec.IsMade marked.now }
-    requires digest { digest.now ≡ sha256 marked.now.original }
-    requires spots { spots.now ≡ ps_of marked.now.original }
+    requires found { AreFoundIn marked.now.original layout.now digest.now }
     ensures { IfOk result (λ b. b ≡ spec.is_form file.now marked.now flat.now) }
 {
-    if !fits(marked, spots, flat.len()) {
+    if !fits(marked, layout.spots.as_slice(), flat.len()) {
         return Ok(false);
     }
-    match form_with(alloc, marked, flat, digest)? {
+    match form_with(alloc, marked, layout, flat, digest)? {
         None => Ok(false),
         Some(form) => Ok(file == form.as_slice()),
     }
@@ -314,25 +323,24 @@ fn makes_file(
     alloc: Global,
     file: &[u8],
     marked: &Marked,
-    spots: &[Spot],
+    layout: &Layout,
     flat: &[u8],
     digest: &[u8; 32],
 ) -> Result<bool, AllocError>
     requires file { length file.now ≤ STORED }
     requires made { spec.IsMade marked.now }
-    requires digest { digest.now ≡ sha256 marked.now.original }
-    requires spots { spots.now ≡ ps_of marked.now.original }
+    requires found { AreFoundIn marked.now.original layout.now digest.now }
     ensures exact { IfOk result (λ b. b ≡ spec.is_form file.now marked.now flat.now) }
     ensures form { IfOk result (λ b. b ≡ true → IsFormOf file.now marked.now) }
 {
-    is_form(alloc, file, marked, spots, flat, digest)
+    is_form(alloc, file, marked, layout, flat, digest)
 }
 
-/// Where a form changes its original, the original's bytes as they stand in the form, and those at the places.
+/// Where a form changes its original, the stamp that stands in the form, and the bytes at the places.
 #[derive(Drop)]
 struct StandingBytes {
     layout: Layout,
-    front: Vec<u8>,
+    stamp: u32,
     flat: Vec<u8>,
 }
 
@@ -345,18 +353,20 @@ fn standing_in(
     object: &Object,
 ) -> Result<StandingBytes, AllocError>
     requires { spec.IsOwn original.now object.now }
-    ensures layout { IfOk result (λ s. spec.IsLayoutOf original.now s.layout) }
-    ensures front { IfOk result (λ s. s.front.items ≡ front_of undo.now file.now) }
+    ensures layout { IfOk result (λ s. IsLayoutOf original.now s.layout) }
+    ensures stamp { IfOk result (λ s. s.stamp ≡ spec.stamp_for object.now original.now
+        (front_of undo.now file.now)) }
     ensures flat { IfOk result (λ s. s.flat.items ≡ spec.places_in original.now
         (front_of undo.now file.now) file.now) }
 {
     let layout = layout_of(alloc, original, object)?;
-    let front = front_of(alloc, undo, file)?;
+    let front = Front::of(undo, file);
+    let stamp = stamp_for(alloc, object, &layout, &front)?;
     let zeros = zeros_behind(object, file);
     let flat = standing(alloc, layout.spots.as_slice(), &front, zeros)?;
     Ok(StandingBytes {
         layout,
-        front,
+        stamp,
         flat,
     })
 }
@@ -408,10 +418,17 @@ fn parts_in(
     let Some(object) = firm_object(alloc, original)? else {
         return Ok(None);
     };
-    let Some(contents) = contents_in(alloc, file, undo, original, &object)? else {
-        return Ok(None);
-    };
-    Ok(Some(FileParts { object, contents }))
+    match contents_in(alloc, file, undo, original, &object) {
+        Ok(Some(contents)) => Ok(Some(FileParts { object, contents })),
+        Ok(None) => {
+            drop(object);
+            Ok(None)
+        }
+        Err(fault) => {
+            drop(object);
+            Err(fault)
+        }
+    }
 }
 
 /// All that a file is made of, if it is the form of it with the bytes that stand at the places.
@@ -424,15 +441,29 @@ fn if_form(
 ) -> Result<Option<Marked>, AllocError>
     requires file { length file.now ≤ STORED }
     requires made { spec.IsMade marked }
-    requires digest { digest.now ≡ sha256 marked.original }
-    requires spots { standing.now.layout.spots ≡ ps_of marked.original }
+    requires found { AreFoundIn marked.original standing.now.layout digest.now }
     ensures exact { IfOk result (λ o. o ≡ when
         (spec.is_form file.now marked standing.now.flat.items) (Some marked)) }
     ensures form { IfOk result (spec.FormIfAny file.now) }
 {
-    let spots = standing.layout.spots.as_slice();
-    let form = makes_file(alloc, file, &marked, spots, &standing.flat, digest)?;
-    Ok(form.then_some(marked))
+    match makes_file(
+        alloc,
+        file,
+        &marked,
+        &standing.layout,
+        &standing.flat,
+        digest,
+    ) {
+        Ok(true) => Ok(Some(marked)),
+        Ok(false) => {
+            drop(marked);
+            Ok(None)
+        }
+        Err(fault) => {
+            drop(marked);
+            Err(fault)
+        }
+    }
 }
 
 /// What a file is made of, if it is a form of this original, of which this is read.
@@ -451,16 +482,7 @@ fn marked_with(
     let FileParts { object, contents } = parts;
     let Contents { lists, standing } = contents;
     let digest = digest_of(original.as_slice());
-    let layout = &standing.layout;
-    let marked = candidate(
-        undo,
-        original,
-        object,
-        layout,
-        lists,
-        &standing.front,
-        &digest,
-    );
+    let marked = candidate(undo, original, object, standing.stamp, lists, &digest);
     if_form(alloc, file, marked, &standing, &digest)
 }
 

@@ -14,7 +14,7 @@ returns c =
     record {
       lists = spelled_here (is_library x.kind) file c.in_ok-lists.field-0 l c.in_ok-lists.ensures.spelled listed;
       layout = c.in_ok-standing.ensures.layout;
-      front = c.in_ok-standing.ensures.front;
+      stamp = c.in_ok-standing.ensures.stamp;
       flat = c.in_ok-standing.ensures.flat;
       found = found;
     }

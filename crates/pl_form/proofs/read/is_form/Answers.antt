@@ -12,5 +12,5 @@ fits-requires c = made_align c.args.marked.now c.requires.made
 
 pub form_with-requires-clause-even : goal.form_with-requires-clause-even
 form_with-requires-clause-even c = λ library.
-    let p = and_parts (length c.args.flat.now == wanted c.args.spots.now) (is_placed c.args.marked.now) (sym c.if-not-fits.ensures) in
+    let p = and_parts (length c.args.flat.now == wanted c.as_slice.result.now) (is_placed c.args.marked.now) (sym c.if-not-fits.ensures) in
     placed_even c.args.marked.now p.1 library
