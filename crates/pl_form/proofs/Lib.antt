@@ -66,3 +66,4 @@ pub mod KeptLaws
 pub mod AlikeLaws
 pub mod FillLaws
 pub mod KeptDigestLaws
+pub mod SpotLaws

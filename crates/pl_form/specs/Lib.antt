@@ -19,3 +19,4 @@ pub mod Alike
 pub mod Files
 pub mod Pieces
 pub mod Tables
+pub mod Rows

@@ -1,15 +1,18 @@
 // What is found by segments, sections, tags and rows: where a form changes an original, and where Back restores it.
-ghost use Rattle.std.specs.Prelude.{◌≡◌, ◌+◌, ◌*◌, ◌^◌, ◌<◌, ◌++◌, ◌∷◌, [], ◌≤◌, slice_index, length, map, IfOk, OnOk};
+ghost use Rattle.std.specs.Prelude.{◌≡◌, ◌+◌, ◌*◌, ◌^◌, ◌<◌, ◌++◌, ◌∷◌, [], ◌≤◌, slice_index, length, map, true, IfOk, OnOk};
 ghost use Rattle.pl_base.specs.Bytes as bytes;
+ghost use Rattle.pl_base.specs.Windows as window_words;
 ghost use Rattle.pl_object.specs.PlaceClauses as clauses;
 ghost use Rattle.pl_object.specs.Relocations as relocations;
 ghost use Rattle.pl_object.specs.Tables as tables;
+ghost use Rattle.pl_form.specs.Back.{all_within};
 ghost use Rattle.pl_form.specs.Found as spec;
 ghost use Rattle.pl_form.specs.Loads as loads;
+ghost use Rattle.pl_form.specs.Rows as row_words;
 
 use crate::Spot;
 use crate::bytes::split;
-use crate::windows::all_bytes;
+use crate::windows::{all_bytes, are_in};
 use pl_base::{Rows, end, part, word32, word64};
 use pl_dyn::Tag;
 use pl_dyn::constants::DT_SYMTAB;
@@ -170,42 +173,11 @@ fn raw_place(symbols: &[u8], table: &[u8], index: usize) -> Window
     Window::new(u128::from(word64(table, at)), width)
 }
 
-/// The places of all whole rows of a table.
-#[tactic(auto, unfolding(crate::specs::Found::raw_places))]
-fn raw_places(alloc: Global, symbols: &[u8], table: &[u8]) -> Result<Vec<Window>, AllocError>
-    ensures { IfOk result (λ v. v.items ≡ spec.raw_places symbols.now table.now) }
-{
-    (0..table.len() / RELA_SIZE)
-        .map(|index| raw_place(symbols, table, index))
-        .collect(alloc)
-}
-
-fn word_windows(alloc: Global, addresses: &[u64]) -> Result<Vec<Window>, AllocError>
-    ensures { IfOk result (λ v. v.items ≡ map spec.word_window addresses.now) }
-{
-    addresses
-        .iter()
-        .map(|address| Window::new(u128::from(*address), WORD64_SIZE))
-        .collect(alloc)
-}
-
-/// Where a place stands: its file bytes, and how many bytes follow in the zeros from an address on.
-#[tactic(auto, unfolding(crate::specs::Loads::spot_of))]
-fn spot_of(segments: &[Segment], start: u128, place: Window) -> Spot
-    ensures { result ≡ loads.spot_of segments.now start place }
-{
-    let window = file_window(segments, place);
-    let behind = if place.size() == window.size() {
-        0
-    } else {
-        place.at().saturating_sub(start)
-    };
-    Spot {
-        at: window.at(),
-        size: window.size(),
-        hidden: place.size().saturating_sub(window.size()),
-        behind,
-    }
+/// The segments of a file, and the address at which the zeros of the last PT_LOAD begin.
+#[derive(Clone, Copy)]
+struct Memory<'f> {
+    segments: &'f [Segment],
+    zeros: u128,
 }
 
 /// The address at which the zeros of the last PT_LOAD begin.
@@ -218,83 +190,148 @@ fn zeros_from(last: Option<Segment>) -> u128
     }
 }
 
-/// Where all places stand.
-fn spots_of(alloc: Global, segments: &[Segment], places: &[Window]) -> Result<Vec<Spot>, AllocError>
-    ensures { IfOk result (λ v. v.items ≡ loads.spots_of segments.now
-        (spec.zeros_from (clauses.last_load segments.now)) places.now) }
+/// The segments, with the address at which the zeros of the last PT_LOAD begin.
+fn memory_of(segments: &[Segment]) -> Memory<'_>
+    ensures segments { result.segments.now ≡ segments.now }
+    ensures zeros { result.zeros ≡ spec.zeros_from (clauses.last_load segments.now) }
 {
-    let start = zeros_from(last_load(segments));
-    places
-        .iter()
-        .map(|place| spot_of(segments, start, *place))
-        .collect(alloc)
+    Memory {
+        segments,
+        zeros: zeros_from(last_load(segments)),
+    }
 }
 
-/// The places that a packed table names; none where its words name none.
+/// Where a place stands: its file bytes, and how many bytes follow in the zeros.
+#[tactic(auto, unfolding(crate::specs::Loads::spot_of))]
+fn spot_of(memory: &Memory<'_>, place: Window) -> Spot
+    ensures { result ≡ loads.spot_of memory.now.segments.now memory.now.zeros place }
+{
+    let window = file_window(memory.segments, place);
+    let behind = if place.size() == window.size() {
+        0
+    } else {
+        place.at().saturating_sub(memory.zeros)
+    };
+    Spot {
+        at: window.at(),
+        size: window.size(),
+        hidden: place.size().saturating_sub(window.size()),
+        behind,
+    }
+}
+
+/// Adds where the places of all whole rows of a table stand.
+fn push_row_spots(
+    spots: &mut Vec<Spot>,
+    memory: &Memory<'_>,
+    symbols: &[u8],
+    table: &[u8],
+) -> Result<(), AllocError>
+    ensures { OnOk result (spots.new.items ≡ spots.old.items
+        ++ row_words.spots_in_memory memory.now (spec.raw_places symbols.now table.now)) }
+{
+    for index in 0..table.len() / RELA_SIZE {
+        let place = raw_place(symbols, table, index);
+        spots.push(spot_of(memory, place))?;
+    }
+    Ok(())
+}
+
+/// Adds where the words at addresses stand.
+fn push_word_spots(
+    spots: &mut Vec<Spot>,
+    memory: &Memory<'_>,
+    addresses: &[u64],
+) -> Result<(), AllocError>
+    ensures { OnOk result (spots.new.items ≡ spots.old.items
+        ++ row_words.spots_in_memory memory.now (map spec.word_window addresses.now)) }
+{
+    for address in addresses {
+        let place = Window::new(u128::from(*address), WORD64_SIZE);
+        spots.push(spot_of(memory, place))?;
+    }
+    Ok(())
+}
+
+/// Adds where the places that a packed table names stand; none where its words name none.
 #[tactic(auto, unfolding(crate::specs::Found::packed_places))]
-fn packed_places(alloc: Global, table: &[u8]) -> Result<Vec<Window>, AllocError>
-    ensures { IfOk result (λ v. v.items ≡ spec.packed_places table.now) }
+fn push_packed_spots(
+    alloc: Global,
+    spots: &mut Vec<Spot>,
+    memory: &Memory<'_>,
+    table: &[u8],
+) -> Result<(), AllocError>
+    ensures { OnOk result (spots.new.items ≡ spots.old.items
+        ++ row_words.spots_in_memory memory.now (spec.packed_places table.now)) }
 {
     match unpack(alloc, table, MOST_PLACES) {
-        Ok(addresses) => word_windows(alloc, addresses.as_slice()),
-        Err(RelrFault::Packed) => Ok(Vec::new(alloc)),
+        Ok(addresses) => push_word_spots(spots, memory, addresses.as_slice()),
+        Err(RelrFault::Packed) => Ok(()),
         Err(RelrFault::NoMemory) => Err(AllocError),
     }
 }
 
-/// Adds the places of all whole rows of a table, and those that a packed table names.
-fn push_places(
-    alloc: Global,
-    places: &mut Vec<Window>,
-    symbols: &[u8],
-    jmprel: &[u8],
-    packed: &[u8],
-) -> Result<(), AllocError>
-    ensures { OnOk result (places.new.items ≡ places.old.items
-        ++ (spec.raw_places symbols.now jmprel.now ++ spec.packed_places packed.now)) }
-{
-    places.extend_from_slice(&raw_places(alloc, symbols, jmprel)?)?;
-    places.extend_from_slice(&packed_places(alloc, packed)?)
+/// The bytes of the tables by whose rows places are found.
+#[derive(Clone, Copy)]
+struct RowBytes<'f> {
+    rela: &'f [u8],
+    jmprel: &'f [u8],
+    packed: &'f [u8],
+    symbols: &'f [u8],
 }
 
-/// The places of all relocations, by the bytes of the tables one after the other, of these sizes, and the symbols behind them.
-#[tactic(auto, unfolding(crate::specs::Found::all_places))]
-fn all_places(
-    alloc: Global,
-    rela: u64,
-    jmprel: u64,
-    packed: u64,
-    rows: &[u8],
-) -> Result<Vec<Window>, AllocError>
-    ensures { IfOk result (λ v. v.items ≡ spec.all_places rela jmprel packed rows.now) }
+/// The bytes of a window, as far as it is in the file.
+fn within<'f>(window: &Window, bytes: &'f [u8]) -> &'f [u8]
+    ensures { result.now ≡ window_words.within window.now bytes.now }
 {
-    let (rela, slots) = split(rows, rela);
-    let (jmprel, words) = split(slots, jmprel);
-    let (packed, symbols) = split(words, packed);
-    let mut places = raw_places(alloc, symbols, rela)?;
-    push_places(alloc, &mut places, symbols, jmprel, packed)?;
-    Ok(places)
+    part(bytes, window.at(), window.size())
 }
 
-/// Where the places of all relocations stand, by their rows: the bytes of the row windows, one after the other.
-fn find_spots(
+/// The bytes of the tables as they lie in a file, by their windows.
+fn rows_in<'f>(windows: &[Window; 4], bytes: &'f [u8]) -> RowBytes<'f>
+    requires { window_words.are_in (length bytes.now) windows.now ≡ true }
+    ensures { row_words.IsCut windows.now (all_within windows.now bytes.now) result }
+{
+    let [rela, jmprel, packed, symbols] = windows;
+    RowBytes {
+        rela: within(rela, bytes),
+        jmprel: within(jmprel, bytes),
+        packed: within(packed, bytes),
+        symbols: within(symbols, bytes),
+    }
+}
+
+/// The bytes of the tables, of the sizes of their windows, as they stand one after the other.
+fn split_rows<'f>(windows: &[Window; 4], bytes: &'f [u8]) -> RowBytes<'f>
+    ensures { row_words.IsCut windows.now bytes.now result }
+{
+    let (rela, slots) = split(bytes, windows[0].size());
+    let (jmprel, words) = split(slots, windows[1].size());
+    let (packed, symbols) = split(words, windows[2].size());
+    RowBytes {
+        rela,
+        jmprel,
+        packed,
+        symbols,
+    }
+}
+
+/// Where the places of all relocations stand, by the bytes of their tables.
+fn spots_by(
     alloc: Global,
     segments: &[Segment],
-    tags: &[Tag],
-    rows: &[u8],
+    rows: &RowBytes<'_>,
 ) -> Result<Rows<Spot>, AllocError>
     ensures { IfOk result (λ spots. spots ≡ loads.spots_of segments.now
-        (spec.zeros_from (clauses.last_load segments.now))
-        (spec.places_by segments.now tags.now rows.now)) }
+        (spec.zeros_from (clauses.last_load segments.now)) (row_words.places_in rows.now)) }
 {
-    let places = all_places(
-        alloc,
-        file_window(segments, rela_memory(tags)).size(),
-        file_window(segments, jmprel_memory(tags)).size(),
-        file_window(segments, relr_memory(tags)).size(),
-        rows,
-    )?;
-    Ok(Rows::from_vec(spots_of(alloc, segments, &places)?))
+    let memory = memory_of(segments);
+    let room = rows.rela.len() / RELA_SIZE + rows.jmprel.len() / RELA_SIZE;
+    let mut spots = Vec::with_capacity(alloc, room)?;
+    push_row_spots(&mut spots, &memory, rows.symbols, rows.rela)?;
+    push_row_spots(&mut spots, &memory, rows.symbols, rows.jmprel)?;
+    push_packed_spots(alloc, &mut spots, &memory, rows.packed)?;
+    Ok(Rows::from_vec(spots))
 }
 
 /// Where the places of all relocations stand, by their rows in these bytes.
@@ -308,6 +345,11 @@ pub fn spots_in(
     ensures { IfOk result (λ spots. spots ≡ spec.spots_in segments.now sections.now tags.now
         bytes.now) }
 {
-    let rows = all_bytes(alloc, &row_windows(segments, sections, tags), bytes)?;
-    find_spots(alloc, segments, tags, &rows)
+    let windows = row_windows(segments, sections, tags);
+    if are_in(bytes.len(), &windows) {
+        spots_by(alloc, segments, &rows_in(&windows, bytes))
+    } else {
+        let copy = all_bytes(alloc, &windows, bytes)?;
+        spots_by(alloc, segments, &split_rows(&windows, &copy))
+    }
 }
