@@ -165,8 +165,9 @@ fn covering_byte(patch: &Patch, address: u128) -> Option<u8>
         then Some (memory.fill_byte address patch.now) else None) }
 {
     let distance = address.checked_sub(u128::from(patch.address))?;
-    if distance < patch.bytes.len() as u128 {
-        Some(patch.bytes[distance as usize])
+    let bytes = patch.bytes();
+    if distance < bytes.len() as u128 {
+        Some(bytes[distance as usize])
     } else {
         None
     }

@@ -25,7 +25,7 @@ pub struct Touch {
 fn words_end(patch: &Patch) -> u64
     ensures { result ≡ spec.words_end patch.now }
 {
-    ((end(patch.address, patch.bytes.len() as u64) + 7) / 8) as u64
+    ((end(patch.address, patch.bytes().len() as u64) + 7) / 8) as u64
 }
 
 /// Adds the words that the patch of an index touches.

@@ -21,10 +21,8 @@ fn patches_of(alloc: Global, lines: &str) -> Result<Vec<Patch>, Fail> {
     let mut patches = Vec::new(alloc);
     for line in lines.lines() {
         let (address, bytes) = parts(line)?;
-        patches.push(Patch {
-            address: number(address)?,
-            bytes: bytes_of(alloc, bytes)?,
-        })?;
+        let bytes = bytes_of(alloc, bytes)?;
+        patches.push(Patch::new(number(address)?, bytes))?;
     }
     Ok(patches)
 }

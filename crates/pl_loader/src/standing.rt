@@ -131,14 +131,10 @@ fn standing_files<'a>(
 }
 
 /// A conflict row as a patch: its eight bytes for its address.
-#[tactic(auto, using(pl_base::proofs::WordLaws::bytes64_std))]
-fn patch_of(alloc: Global, row: &ConflictRow) -> Result<Patch, AllocError>
-    ensures { IfOk result (λ patch. patch ≡ patch_spec.patch_of row.now) }
+fn patch_of(row: &ConflictRow) -> Patch
+    ensures { result ≡ patch_spec.patch_of row.now }
 {
-    Ok(Patch {
-        address: row.address,
-        bytes: row.word.to_le_bytes().to_vec(alloc)?,
-    })
+    Patch::word(row.address, row.word)
 }
 
 fn patches(alloc: Global, rows: &[ConflictRow]) -> Result<Vec<Patch>, AllocError>
@@ -146,7 +142,7 @@ fn patches(alloc: Global, rows: &[ConflictRow]) -> Result<Vec<Patch>, AllocError
 {
     let mut patches = Vec::new(alloc);
     for row in rows {
-        patches.push(patch_of(alloc, row)?)?;
+        patches.push(patch_of(row))?;
     }
     Ok(patches)
 }

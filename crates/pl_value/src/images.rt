@@ -41,16 +41,12 @@ pub fn load<'a>(
 }
 
 /// A word for its place, where there is one.
-#[tactic(auto, using(pl_base::proofs::WordLaws::bytes64_std))]
-fn word_patch(alloc: Global, meaning: &Meaning) -> Result<Option<Patch>, AllocError>
-    ensures { IfOk result (λ patch. patch ≡ linked.put_of meaning.now.start meaning.now.word) }
+fn word_patch(meaning: &Meaning) -> Option<Patch>
+    ensures { result ≡ linked.put_of meaning.now.start meaning.now.word }
 {
     match meaning.word {
-        Word::Put(word) => Ok(Some(Patch {
-            address: meaning.start,
-            bytes: word.to_le_bytes().to_vec(alloc)?,
-        })),
-        _ => Ok(None),
+        Word::Put(word) => Some(Patch::word(meaning.start, word)),
+        _ => None,
     }
 }
 
@@ -61,7 +57,7 @@ pub fn words(alloc: Global, meanings: &[Meaning]) -> Result<Vec<Patch>, AllocErr
 {
     let mut patches = Rows::from_vec(Vec::with_capacity(alloc, meanings.len())?);
     for meaning in meanings {
-        patches.push_some(word_patch(alloc, meaning)?)?;
+        patches.push_some(word_patch(meaning))?;
     }
     Ok(patches.into_vec())
 }
@@ -76,10 +72,10 @@ fn copy_of(
         ≡ linked.copy_of (patched worded.now) meaning.now.start meaning.now.word) }
 {
     match meaning.word {
-        Word::Copy { from, bytes, .. } => Ok(Some(Patch {
-            address: meaning.start,
-            bytes: worded.read(alloc, from, bytes)?,
-        })),
+        Word::Copy { from, bytes, .. } => {
+            let copied = worded.read(alloc, from, bytes)?;
+            Ok(Some(Patch::new(meaning.start, copied)))
+        }
         _ => Ok(None),
     }
 }
