@@ -44,7 +44,7 @@ impl AskedBy {
     }
 }
 
-/// What a symbol found when it was asked last, with the class of the relocation that asked. It takes 12 bytes, of which there are as many as a scope has symbols.
+/// What a symbol found when it was asked last, with the class of the relocation that asked. It takes 12 bytes, and a scope has one for each symbol.
 #[derive(Clone, Copy)]
 pub enum Answer {
     /// It was not asked yet.
