@@ -1,7 +1,6 @@
 -- How what a file is made of is told, step by step.
 use Rattle.std.proofs.Common.{◌≡◌, ℕ, ◌+◌, ◌*◌, ◌%◌, ◌^◌, ◌<◌, ◌≤◌, Bool, true, false, List, [], length, Option, Some, None, Ok, refl, sym, ap, subst, ◌∙◌, arith}
 use Rattle.std.specs.Prelude.{if◌then◌else◌}
-use Rattle.std.specs.Bool.{then_some}
 use Rattle.pl_base.specs.Bytes.{word32, word64}
 use Rattle.pl_base.specs.Windows.{Window, within}
 use Rattle.pl_elf.specs.Kinds.{is_library}
@@ -12,7 +11,6 @@ use Rattle.pl_object.specs.Reads.{reads}
 use Rattle.pl_object.specs.declared.object.Object.{Object}
 use Rattle.pl_object.proofs.AcceptedLaws.{accepted}
 use Rattle.pl_form.specs.Back.{front_of, when}
-use Rattle.pl_form.specs.Marks.{IsFormOf}
 use Rattle.pl_form.specs.Found.{ss_of, d_of, tags_of, ps_of}
 use Rattle.pl_form.specs.Parts.{Original}
 use Rattle.pl_form.specs.declared.parts.Spot.{Spot}
@@ -22,7 +20,7 @@ use Rattle.pl_form.specs.Originals.{IsLayoutOf}
 use Rattle.pl_lists.specs.Conflicts.{ascend, are_conflicts}
 use Rattle.pl_lists.specs.declared.conflict_row.ConflictRow.{ConflictRow}
 use Rattle.pl_lists.specs.declared.list_row.ListRow.{ListRow}
-use Rattle.pl_form.specs.Reading.{IsOwn, OwnIfAny, IsSpelledList, ListIfAny, AreSpelled, SpelledIfAny, with_conflicts, firm_object, lists_in, candidate, stamp_behind, stamp_for, stamp_in, candidate_with, version_in, standing, zeros_behind, places_in, is_form, checked, marked_by, IsMade, FormIfAny}
+use Rattle.pl_form.specs.Reading.{IsOwn, OwnIfAny, IsSpelledList, ListIfAny, AreSpelled, SpelledIfAny, with_conflicts, firm_object, lists_in, candidate, stamp_behind, stamp_for, stamp_in, candidate_with, version_in, standing, zeros_behind, places_in, is_form, checked, marked_by, IsMade}
 use Rattle.pl_form.specs.declared.file.Marked.{Marked}
 use Rattle.pl_form.specs.declared.layout.Layout.{Layout}
 use Rattle.pl_form.specs.declared.read.Lists.{Lists}
@@ -81,13 +79,11 @@ no_lists file o u x e f = rw (sym e, sym f) refl
 
 -- ---- what a test says
 
-pub some_when : (b : Bool) (m : Marked) → then_some b m ≡ when b (Some m)
-some_when true m = refl
-some_when false m = refl
+pub some_when : (b : Bool) (m : Marked) → b ≡ true → Some m ≡ when b (Some m)
+some_when b m e = rw e refl
 
-pub form_if : (file : List ℕ) (b : Bool) (m : Marked) (found : Option Marked) → found ≡ then_some b m → (b ≡ true → IsFormOf file m) → FormIfAny file found
-form_if file true m found is form = subst (FormIfAny file) (sym is) (form refl)
-form_if file false m found is form = subst (FormIfAny file) (sym is) tt
+pub none_when : (b : Bool) (m : Marked) → b ≡ false → None ≡ when b (Some m)
+none_when b m e = rw e refl
 
 -- ---- what the parts say
 

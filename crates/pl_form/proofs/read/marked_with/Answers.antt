@@ -1,7 +1,6 @@
 use Rattle.std.proofs.Common.{◌≡◌, Option, refl, sym, ap, subst, ◌∙◌}
 use Rattle.std.specs.Prelude.{IfOk}
 use Rattle.pl_form.specs.Back.{front_of}
-use Rattle.pl_form.specs.Originals.{IsLayoutOf}
 use Rattle.pl_form.specs.Reading.{IsMade}
 use Rattle.pl_form.specs.declared.file.Marked.{Marked}
 use Rattle.pl_form.proofs.MarkedLaws.{candidate_here, candidate_original, same_checked}
