@@ -8,7 +8,7 @@ use Rattle.std.proofs.lemmas.Bool.{cond_both, and_parts, eqb-true}
 use Rattle.std.proofs.lemmas.List.{take_more, take_all, append-nil, at_drop_more, at_drop_all}
 use Rattle.std.proofs.lemmas.List.Elements.{All-append, All-tail, All-nil, filter_map-append}
 use Rattle.std.proofs.lemmas.List.Filters.{All-dedup}
-use Rattle.std.proofs.lemmas.List.Sorted.{list_any-IsPermutation}
+use Rattle.std.proofs.lemmas.List.Sorted.{All-permutation, list_any-IsPermutation}
 use Rattle.pl_base.proofs.MemoryLaws.{All-filter_map}
 use Rattle.pl_sym.specs.Definers.{is_definer}
 use Rattle.pl_sym.specs.declared.class.Class.{Class}
@@ -17,7 +17,8 @@ use Rattle.pl_hash.specs.Hash.{gnu}
 use Rattle.pl_elf.specs.Kinds.{is_program}
 use Rattle.pl_object.specs.declared.object.Object.{Object}
 use Rattle.pl_scope.specs.Finds.{in_member, first_in, from_member}
-use Rattle.pl_scope.specs.Index.{entry_of, entries_of, is_entry}
+use Rattle.pl_scope.specs.Index.{entry_of, entries_of, is_entry, AreSmallHashes, IsInOrder}
+use Rattle.pl_scope.specs.ShortIndex.{mixed}
 use Rattle.pl_scope.specs.ScopeIndex.{IsBest}
 use Rattle.pl_scope.specs.Folder.{entries_at, all_from, all_entries, order_of, is_same, AreSmallRows, IsFolderIndex, position_of, position_in, placed, IsIndexAmong, best_at}
 use Rattle.pl_scope.specs.declared.folder.Among.{Among}
@@ -26,7 +27,7 @@ use Rattle.pl_scope.specs.declared.index.Entry.{Entry}
 use Rattle.pl_scope.specs.declared.found.Found.{Found}
 use Rattle.pl_scope.specs.declared.wanted.Wanted.{Wanted}
 use Rattle.pl_scope.proofs.FoundLaws.{member_defines}
-use Rattle.pl_scope.proofs.IndexLaws.{made_within}
+use Rattle.pl_scope.proofs.IndexLaws.{made_small, made_within}
 use Rattle.pl_scope.proofs.ScopeIndexLaws.{best_push, best_is}
 
 -- ---- the definers of all objects
@@ -62,9 +63,22 @@ pub rows_are : (os : List (Option Object)) (es : List Entry) → length os ≤ 4
 rows_are os es few is =
     subst (λ (xs : List Entry). AreSmallRows xs) (sym is) (λ k d at. let lt = all_within 0 os k d at in omega (arith, lt, few))
 
+at_small : (row : ℕ) (o : Option Object) → All (λ e. e.hash < 4294967296) (entries_at row o)
+at_small row None = All-nil (λ (e : Entry). e.hash < 4294967296)
+at_small row (Some o) =
+    All-filter_map (λ (e : Entry). e.hash < 4294967296) (entry_of o row) o.symbols (λ i d at. made_small row (get_or o.symbols i d) (is_definer (get_or o.symbols i d) Other (is_program o.kind)))
+
+all_small : (row : ℕ) (os : List (Option Object)) → All (λ e. e.hash < 4294967296) (all_from row os)
+unfolding all_from
+all_small row [] = All-nil (λ (e : Entry). e.hash < 4294967296)
+all_small row (o ∷ os) = All-append (λ (e : Entry). e.hash < 4294967296) (entries_at row o) (all_from (row + 1) os) (at_small row o) (all_small (row + 1) os)
+
+pub hashes_are : (os : List (Option Object)) (es : List Entry) → es ≡ all_entries os → AreSmallHashes es
+hashes_are os es is = subst (λ (xs : List Entry). AreSmallHashes xs) (sym is) (all_small 0 os)
+
 -- ---- their order
 
-pub hashes_rise : (es : List Entry) → AreSmallRows es → IsNonDecreasingBy (λ e. order_of e) es → IsNonDecreasingBy (λ e. e.hash) es
+pub hashes_rise : (es : List Entry) → AreSmallRows es → IsNonDecreasingBy (λ e. order_of e) es → IsNonDecreasingBy (λ e. mixed e.hash) es
 hashes_rise es rows up i j d le lt =
     let at = up i j d le lt in
     let row = rows j d lt in
@@ -125,7 +139,16 @@ any_dedup : (p : Entry → Bool) (xs : List Entry) → list_any p (dedup is_same
 any_dedup p [] = refl
 any_dedup p (x ∷ xs) = any_from p x xs
 
--- sorted, and each once, they are an index
+-- sorted, and each once, they are in order
+pub once_in_order : (all sorted once : List Entry) → AreSmallHashes all → IsPermutation all sorted → IsNonDecreasingBy (λ e. mixed e.hash) sorted → once ≡ dedup is_same sorted → IsInOrder once
+once_in_order all sorted once small same rising dropped =
+    subst (λ (es : List Entry). IsInOrder es) (sym dropped)
+    (record {
+      rising = rising_dedup (λ (e : Entry). mixed e.hash) is_same sorted rising;
+      small = All-dedup is_same (λ (e : Entry). e.hash < 4294967296) sorted (All-permutation (λ (e : Entry). e.hash < 4294967296) all sorted same small);
+    })
+
+-- and an index
 pub folder_index : (os : List (Option Object)) (all sorted once : List Entry) → all ≡ all_entries os → IsPermutation all sorted → once ≡ dedup is_same sorted → IsFolderIndex os once
 folder_index os all sorted once is same dropped hash row =
     ap (list_any (is_entry hash row)) dropped

@@ -7,7 +7,7 @@ use Rattle.pl_hash.specs.Hash.{gnu}
 use Rattle.pl_object.specs.declared.object.Object.{Object}
 use Rattle.pl_scope.specs.Index.{entries_of, entry_of, is_entry}
 use Rattle.pl_scope.specs.ScopeIndex.{HasOwn, IsIndex, best_of}
-use Rattle.pl_scope.specs.ShortIndex.{HasShort, IsShortIndex}
+use Rattle.pl_scope.specs.ShortIndex.{HasShort, IsShortIndex, mixed}
 use Rattle.pl_scope.specs.declared.entries.Entry.{Entry as Placed}
 use Rattle.pl_scope.specs.declared.folder.Among.{Among}
 use Rattle.pl_scope.specs.declared.found.Found.{Found}
@@ -35,9 +35,9 @@ all_from row (o ∷ os) = entries_at row o ++ all_from (row + 1) os
 abbrev pub all_entries : List (Option Object) → List Entry
 all_entries objects = all_from 0 objects
 
--- hashes count before rows
+-- mixed hashes count before rows
 abbrev pub order_of : Entry → ℕ
-order_of e = e.hash * 4294967296 + e.member
+order_of e = mixed e.hash * 4294967296 + e.member
 
 abbrev pub is_same : Entry → Entry → Bool
 is_same x y = x.hash == y.hash && x.member == y.member

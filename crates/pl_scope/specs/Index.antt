@@ -1,13 +1,14 @@
 -- The definers of objects by the hashes of their names.
-use Rattle.std.specs.Prelude.{◌≡◌, ◌≤◌, ℕ, Bool, true, false, nat_lt, ◌&&◌, ◌==◌, List, filter, length, Option, Some, None, if◌then◌else◌}
-use Rattle.std.specs.List.{AllWithin}
-use Rattle.std.specs.List.Sorted.{IsPartitionPoint}
+use Rattle.std.specs.Prelude.{◌≡◌, ◌≤◌, ◌<◌, ℕ, Bool, true, false, nat_lt, ◌&&◌, ◌==◌, List, filter, length, Option, Some, None, if◌then◌else◌}
+use Rattle.std.specs.List.{All, AllWithin}
+use Rattle.std.specs.List.Sorted.{IsNonDecreasingBy, IsPartitionPoint}
 use Rattle.pl_sym.specs.Definers.{is_definer}
 use Rattle.pl_sym.specs.declared.symbol.Symbol.{Symbol}
 use Rattle.pl_sym.specs.declared.class.Class.TheVariants.{Other}
 use Rattle.pl_hash.specs.Hash.{gnu}
 use Rattle.pl_elf.specs.Kinds.{is_program}
 use Rattle.pl_object.specs.declared.object.Object.{Object}
+use Rattle.pl_scope.specs.ShortIndex.{mixed}
 use Rattle.pl_scope.specs.declared.index.Entry.{Entry}
 
 -- a definer of an object, for any class of relocations, under its name's hash
@@ -22,12 +23,25 @@ is_entry hash member e = e.hash == hash && e.member == member
 abbrev pub entries_of : List Entry → ℕ → List Entry
 entries_of index hash = filter (λ e. e.hash == hash) index
 
--- the entries before a place have lower hashes than a number
+-- the entries are in the order of their mixed hashes
+abbrev pub IsRising : List Entry → Type 0
+IsRising es = IsNonDecreasingBy (λ e. mixed e.hash) es
+
+-- each hash has 32 bits
+abbrev pub AreSmallHashes : List Entry → Type 0
+AreSmallHashes es = All (λ e. e.hash < 4294967296) es
+
+-- both, so that those of one mixed hash are those of one hash
+pub record IsInOrder (es : List Entry) : Type 0 where
+  pub rising : IsRising es
+  pub small : AreSmallHashes es
+
+-- the entries before a place have lower mixed hashes than a number
 pub record IsBehind (es : List Entry) (hash place : ℕ) : Type 0 where
   pub bound : place ≤ length es
-  pub lower : AllWithin (λ e. nat_lt e.hash hash ≡ true) es 0 place
+  pub lower : AllWithin (λ e. nat_lt (mixed e.hash) hash ≡ true) es 0 place
 
--- the place of the first entry whose hash is not lower than a number
+-- the place of the first entry whose mixed hash is not lower than a number
 pub record IsFirst (es : List Entry) (hash place : ℕ) : Type 0 where
   pub bound : place ≤ length es
-  pub point : IsPartitionPoint (λ e. nat_lt e.hash hash ≡ true) (λ e. nat_lt e.hash hash ≡ false) es place
+  pub point : IsPartitionPoint (λ e. nat_lt (mixed e.hash) hash ≡ true) (λ e. nat_lt (mixed e.hash) hash ≡ false) es place

@@ -2,12 +2,14 @@
 ghost use Rattle.std.specs.Prelude.{◌≡◌, ◌<◌, ◌^◌, IfOk, OnOk, ◌++◌, length, map};
 ghost use Rattle.std.specs.Bool.{OnFalse};
 ghost use Rattle.std.specs.List.{dedup};
-ghost use Rattle.std.specs.List.Sorted.{IsNonDecreasingBy, IsPermutation};
+ghost use Rattle.std.specs.List.Sorted.{IsPermutation};
 ghost use Rattle.std.specs.Option.{option_map};
 ghost use Rattle.pl_scope.specs.Index as index;
 ghost use Rattle.pl_scope.specs.Folder as spec;
 
-use crate::index::{Entry, add_entries, under};
+use crate::index::{Entry, add_entries, starts_of, under};
+use crate::short_index::mixed;
+use crate::starts::Starts;
 use pl_hash::gnu_hash;
 use pl_io::NoMemory;
 use pl_object::Object;
@@ -18,18 +20,21 @@ use std::marker::Model;
 #[derive(Drop)]
 pub struct Index {
     entries: Vec<Entry>,
+
+    /// Where searches of the entries begin.
+    starts: Starts,
 }
 
 impl Model for Index {
     ghost use Rattle.std.specs.Prelude.{List};
-    ghost use Rattle.std.specs.List.Sorted.{IsNonDecreasingBy};
+    ghost use Rattle.pl_scope.specs.Index.{IsInOrder};
     ghost use Rattle.pl_scope.specs.declared.index.Entry.{Entry};
 
     ghost Value = { List Entry };
 
     ghost view = { λ i. i.entries.items };
 
-    ghost invariant = { λ i. IsNonDecreasingBy (λ e. e.hash) i.entries.items };
+    ghost invariant = { λ i. IsInOrder i.entries.items };
 }
 
 /// An index of a folder, and where the objects of its rows stand in a scope.
@@ -58,6 +63,7 @@ fn all_entries(alloc: Global, objects: &[Option<&Object>]) -> Result<Vec<Entry>,
     ensures all { IfOk result (λ v. v.items ≡ spec.all_entries
         (map (option_map (λ o. o.now)) objects.now)) }
     ensures rows { IfOk result (λ v. spec.AreSmallRows v.items) }
+    ensures hashes { IfOk result (λ v. index.AreSmallHashes v.items) }
 {
     let mut entries = Vec::new(alloc);
     for row in 0..objects.len() {
@@ -66,18 +72,18 @@ fn all_entries(alloc: Global, objects: &[Option<&Object>]) -> Result<Vec<Entry>,
     Ok(entries)
 }
 
-/// By what entries are put into order: their hashes, then their rows.
+/// By what entries are put into order: their mixed hashes, then their rows.
 fn order_of(entry: &Entry) -> u64
     ensures { result ≡ spec.order_of entry.now }
 {
-    u64::from(entry.hash) * 4_294_967_296 + u64::from(entry.member)
+    u64::from(mixed(entry.hash)) * 4_294_967_296 + u64::from(entry.member)
 }
 
-/// Puts entries into the order of their hashes, and those of a hash into the order of their rows.
+/// Puts entries into the order of their mixed hashes, and those of a hash into the order of their rows.
 fn sort_rows(entries: &mut Vec<Entry>)
     requires { spec.AreSmallRows entries.old.items }
     ensures same { IsPermutation entries.old.items entries.new.items }
-    ensures rising { IsNonDecreasingBy (λ e. e.hash) entries.new.items }
+    ensures rising { index.IsRising entries.new.items }
 {
     entries.sort_unstable_by_key(|entry| order_of(entry));
 }
@@ -107,14 +113,15 @@ impl Index {
         sort_rows(&mut entries);
         drop_repeats(&mut entries);
         entries.shrink_to_fit();
-        Ok(Index { entries })
+        let starts = starts_of(alloc, &entries)?;
+        Ok(Index { entries, starts })
     }
 
     /// The entries of a hash, in the order of their rows.
     pub fn entries_of(&self, hash: u32) -> &[Entry]
         ensures { result.now ≡ index.entries_of self.now hash }
     {
-        under(&self.entries, hash)
+        under(&self.entries, &self.starts, hash)
     }
 
     /// Whether two objects may define a name; where it is false, one at most does.

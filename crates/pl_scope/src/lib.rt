@@ -23,6 +23,7 @@ mod scope;
 mod scope_index;
 mod short_index;
 mod sorted;
+mod starts;
 mod version_index;
 mod walks;
 mod wanted;

@@ -6,46 +6,27 @@ ghost use Rattle.pl_scope.specs.Entries as entries;
 ghost use Rattle.pl_scope.specs.Sorted as spec;
 
 use crate::entries::{Entry, first_at};
+use crate::starts::Starts;
 use std::alloc::{AllocError, Global};
 
 /// So many steps are gone from where a search begins.
 const STEPS: usize = 12;
-
-/// So many entries are in a range of the table on average.
-const OF_A_RANGE: usize = 4;
 
 /// Entries in the order of their keys, with the places where searches begin.
 #[derive(Drop)]
 pub struct Sorted {
     pub entries: Vec<Entry>,
 
-    /// For each of so many equal ranges of keys the place of the first entry that is not before it. It decides the time alone.
-    pub starts: Vec<u32>,
+    pub starts: Starts,
 }
 
-/// The number of the range of a key's upper part among so many.
-fn range_of(upper: u64, count: usize) -> usize {
-    (upper.wrapping_mul(count as u64) / 0x1_0000_0000) as usize
-}
-
-/// Gives the ranges up to a number that have no place yet this one.
-fn start_ranges(starts: &mut Vec<u32>, end: usize, place: usize) -> Result<(), AllocError> {
-    for _ in starts.len()..end {
-        starts.push((place % 0x1_0000_0000) as u32)?;
-    }
-    Ok(())
-}
-
-/// The places where searches begin. The ranges are few enough that the table stays small beside the entries.
-fn starts_of(alloc: Global, entries: &[Entry]) -> Result<Vec<u32>, AllocError> {
+/// The places where searches begin.
+fn starts_of(alloc: Global, entries: &[Entry]) -> Result<Starts, AllocError> {
     let count = entries.len();
-    let ranges = count / OF_A_RANGE + 1;
-    let mut starts = Vec::with_capacity(alloc, ranges)?;
+    let mut starts = Starts::with_room(alloc, count)?;
     for place in 0..count {
-        let range = range_of(entries[place].key / 0x1_0000_0000, ranges);
-        start_ranges(&mut starts, range.saturating_add(1), place)?;
+        starts.note((entries[place].key / 0x1_0000_0000) as u32, place)?;
     }
-    start_ranges(&mut starts, ranges, count)?;
     Ok(starts)
 }
 
@@ -59,12 +40,9 @@ pub fn sorted_of(alloc: Global, entries: Vec<Entry>) -> Result<Sorted, AllocErro
 
 /// Where a search for a key begins.
 fn start_of(sorted: &Sorted, key: u128) -> usize {
-    let upper = (key / 0x1_0000_0000 % 0x1_0000_0000) as u64;
-    let range = range_of(upper, sorted.starts.len());
-    match sorted.starts.as_slice().get(range) {
-        None => 0,
-        Some(place) => *place as usize,
-    }
+    sorted
+        .starts
+        .place_of((key / 0x1_0000_0000 % 0x1_0000_0000) as u32)
 }
 
 /// Whether the entries before a place, which rise, have lower keys.
