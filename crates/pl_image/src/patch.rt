@@ -8,7 +8,7 @@ use std::marker::Model;
 /// Where the bytes of a patch stand.
 #[derive(Drop)]
 enum PatchBytes {
-    /// Those of a word, in the patch itself.
+    /// The bytes of a word, in the patch itself.
     Word([u8; 8]),
 
     /// In memory of their own.

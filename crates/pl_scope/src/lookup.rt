@@ -309,17 +309,17 @@ fn in_member_under(
     scope: &Scope<'_>,
     wanted: &Wanted<'_>,
     member: u32,
-    under_name: UnderName<'_, '_>,
+    hits: UnderName<'_, '_>,
 ) -> Option<Found>
     requires within { member < length scope.now }
     requires wanted { probing.IsWanted wanted.now }
-    requires under { short.AreUnderName (objects scope.now) wanted.now under_name }
+    requires under { short.AreUnderName (objects scope.now) wanted.now hits }
     ensures { result ≡ spec.in_member (objects scope.now) wanted.now.name.now wanted.now.class
         (option_map (λ x. x.now) wanted.now.version) member }
 {
     let object = scope.object(member);
-    let among = under(under_name.entries, pair(mixed(wanted.gnu), member));
-    let matched = matching_among(object, wanted, member, under_name.definers, among);
+    let among = under(hits.entries, pair(mixed(wanted.gnu), member));
+    let matched = matching_among(object, wanted, member, hits.definers, among);
     found_in(member, matched)
 }
 
@@ -330,16 +330,16 @@ fn best_of_under(
     start: u32,
     best: Option<Found>,
     member: u32,
-    under_name: UnderName<'_, '_>,
+    hits: UnderName<'_, '_>,
 ) -> Option<Found>
     requires within { member < length scope.now }
     requires wanted { probing.IsWanted wanted.now }
-    requires under { short.AreUnderName (objects scope.now) wanted.now under_name }
+    requires under { short.AreUnderName (objects scope.now) wanted.now hits }
     ensures { result ≡ index.best_of (objects scope.now) wanted.now.name.now wanted.now.class
         (option_map (λ x. x.now) wanted.now.version) start best member }
 {
     if is_better(start, best, member) {
-        in_member_under(scope, wanted, member, under_name).or(best)
+        in_member_under(scope, wanted, member, hits).or(best)
     } else {
         best
     }
@@ -352,16 +352,16 @@ fn best_under(
     start: u32,
     best: Option<Found>,
     entry: &Entry,
-    under_name: UnderName<'_, '_>,
+    hits: UnderName<'_, '_>,
 ) -> Option<Found>
     requires wanted { probing.IsWanted wanted.now }
-    requires under { short.AreUnderName (objects scope.now) wanted.now under_name }
+    requires under { short.AreUnderName (objects scope.now) wanted.now hits }
     ensures { result ≡ short.best_under (objects scope.now) wanted.now start best entry.now }
 {
     let member = member_of(entry);
     let count = scope.count();
     if member < count {
-        best_of_under(scope, wanted, start, best, member, under_name)
+        best_of_under(scope, wanted, start, best, member, hits)
     } else {
         best
     }
@@ -380,10 +380,10 @@ fn first_short(
 {
     let count = scope.count();
     let entries = under_hash(definers, mixed(wanted.gnu), count);
-    let under_name = UnderName { definers, entries };
+    let hits = UnderName { definers, entries };
     let mut best = None;
     for entry in entries {
-        best = best_under(scope, wanted, start, best, entry, under_name);
+        best = best_under(scope, wanted, start, best, entry, hits);
     }
     best
 }
