@@ -8,8 +8,8 @@ use std::alloc::{AllocError, Global};
 use std::marker::Model;
 use std::rc::RcSlice;
 
-/// How many bytes of a name stand in the symbol itself: with their count and the kind of the place as many as two words have.
-const SHORT: usize = 14;
+/// How many bytes of a name stand in the symbol itself: with their count as many as a pointer and two numbers of 32 bits have.
+const SHORT: usize = 15;
 
 /// Where the bytes of a name stand.
 #[derive(Drop)]
@@ -22,13 +22,10 @@ enum NameBytes {
 
     /// In strings that names share: so many from a place on.
     Shared {
-        size: u16,
-        start: u32,
         strings: RcSlice<u8>,
+        start: u32,
+        size: u32,
     },
-
-    /// In a block of its own.
-    Own(RcSlice<u8>),
 }
 
 /// The bytes of a symbol's name. Contracts see it as their list. Most names are short, and take no memory besides the symbol's; the long ones of a table share its strings.
@@ -83,32 +80,22 @@ fn here(bytes: &[u8]) -> NameBytes
     }
 }
 
-/// So many bytes of strings from a place on, where both numbers are small; otherwise a copy of them.
-fn long(
-    alloc: Global,
-    strings: &RcSlice<u8>,
-    start: usize,
-    bytes: &[u8],
-) -> Result<NameBytes, AllocError>
-    requires { take (length bytes.now) (drop start (rc_slice_items strings.now)) ≡ bytes.now }
-    ensures { IfOk result (λ p. spec.bytes_at p ≡ bytes.now) }
+/// The place of bytes that strings share. Where a number has more than 32 bits, so in strings of 4 GiB or more, the answer is that of want of memory.
+fn shared(strings: &RcSlice<u8>, start: usize, size: usize) -> Result<NameBytes, AllocError>
+    ensures { IfOk result (λ p. spec.bytes_at p
+        ≡ take size (drop start (rc_slice_items strings.now))) }
 {
-    if start > u32::MAX as usize || bytes.len() > usize::from(u16::MAX) {
-        return Ok(NameBytes::Own(RcSlice::from_slice(alloc, bytes)?));
+    if start > u32::MAX as usize || size > u32::MAX as usize {
+        return Err(AllocError);
     }
     Ok(NameBytes::Shared {
-        size: bytes.len() as u16,
-        start: start as u32,
         strings: strings.clone()?,
+        start: start as u32,
+        size: size as u32,
     })
 }
 
-fn place_of(
-    alloc: Global,
-    strings: &RcSlice<u8>,
-    start: usize,
-    size: usize,
-) -> Result<NameBytes, AllocError>
+fn place_of(strings: &RcSlice<u8>, start: usize, size: usize) -> Result<NameBytes, AllocError>
     ensures { IfOk result (λ p. spec.bytes_at p
         ≡ take size (drop start (rc_slice_items strings.now))) }
 {
@@ -116,22 +103,17 @@ fn place_of(
     if bytes.len() <= SHORT {
         Ok(here(bytes))
     } else {
-        long(alloc, strings, start, bytes)
+        shared(strings, start, size)
     }
 }
 
 impl Name {
     /// So many bytes of strings from a place on, as far as they reach. It fails only for want of memory.
-    pub fn within(
-        alloc: Global,
-        strings: &RcSlice<u8>,
-        start: usize,
-        size: usize,
-    ) -> Result<Name, AllocError>
+    pub fn within(strings: &RcSlice<u8>, start: usize, size: usize) -> Result<Name, AllocError>
         ensures { IfOk result (λ name. name
             ≡ take size (drop start (rc_slice_items strings.now))) }
     {
-        let place = place_of(alloc, strings, start, size)?;
+        let place = place_of(strings, start, size)?;
         Ok(Name { place })
     }
 
@@ -141,7 +123,7 @@ impl Name {
         ensures { IfOk result (λ name. name ≡ bytes.now) }
     {
         let strings = RcSlice::from_slice(alloc, bytes)?;
-        Name::within(alloc, &strings, 0, bytes.len())
+        Name::within(&strings, 0, bytes.len())
     }
 
     /// The bytes, lent.
@@ -151,14 +133,10 @@ impl Name {
         match &self.place {
             NameBytes::Here { size, bytes } => first(bytes.as_slice(), usize::from(*size)),
             NameBytes::Shared {
-                size,
-                start,
                 strings,
-            } => first(
-                rest(strings.as_slice(), *start as usize),
-                usize::from(*size),
-            ),
-            NameBytes::Own(bytes) => bytes.as_slice(),
+                start,
+                size,
+            } => first(rest(strings.as_slice(), *start as usize), *size as usize),
         }
     }
 }
