@@ -98,7 +98,7 @@ fn reads_symbols(rt: HostRuntime) -> Result<(), Fail> {
 }
 
 /// Longer than the names that stand in a symbol.
-const LONG: &[u8] = b"a_name_of_more_than_15_bytes";
+const LONG: &[u8] = b"a_name_of_more_than_14_bytes";
 
 #[test]
 fn keeps_names_of_each_length(rt: HostRuntime) -> Result<(), Fail> {
@@ -111,7 +111,7 @@ fn keeps_names_of_each_length(rt: HostRuntime) -> Result<(), Fail> {
     Ok(())
 }
 
-/// How many bytes long names have.
+/// How many bytes long names have: the most that the symbol itself counts, and more.
 const LONG_SIZES: [usize; 3] = [65_535, 65_536, 70_000];
 
 #[test]

@@ -8,8 +8,8 @@ use std::alloc::{AllocError, Global};
 use std::marker::Model;
 use std::rc::RcSlice;
 
-/// How many bytes of a name stand in the symbol itself: with their count as many as a pointer and two numbers of 32 bits have.
-const SHORT: usize = 15;
+/// How many bytes of a name stand in the symbol itself: with their count and the kind of the place as many as two words have.
+const SHORT: usize = 14;
 
 /// Where the bytes of a name stand.
 #[derive(Drop)]
@@ -22,10 +22,21 @@ enum NameBytes {
 
     /// In strings that names share: so many from a place on.
     Shared {
-        strings: RcSlice<u8>,
+        size: u16,
         start: u32,
-        size: u32,
+        strings: RcSlice<u8>,
     },
+
+    /// In such strings, where one of the numbers has more bits.
+    Far(Box<Far>),
+}
+
+/// Where a name stands in strings that names share: so many bytes from a place on.
+#[derive(Drop)]
+struct Far {
+    strings: RcSlice<u8>,
+    start: usize,
+    size: usize,
 }
 
 /// The bytes of a symbol's name. Contracts see it as their list. Most names are short, and take no memory besides the symbol's; the long ones of a table share its strings.
@@ -80,22 +91,38 @@ fn here(bytes: &[u8]) -> NameBytes
     }
 }
 
-/// The place of bytes that strings share. Where a number has more than 32 bits, so in strings of 4 GiB or more, the answer is that of want of memory.
-fn shared(strings: &RcSlice<u8>, start: usize, size: usize) -> Result<NameBytes, AllocError>
+/// The place of bytes that strings share. Numbers of more bits than the symbol has for them stand in a block of their own, of a few words.
+fn shared(
+    alloc: Global,
+    strings: &RcSlice<u8>,
+    start: usize,
+    size: usize,
+) -> Result<NameBytes, AllocError>
     ensures { IfOk result (λ p. spec.bytes_at p
         ≡ take size (drop start (rc_slice_items strings.now))) }
 {
-    if start > u32::MAX as usize || size > u32::MAX as usize {
-        return Err(AllocError);
+    let strings = strings.clone()?;
+    if start > u32::MAX as usize || size > usize::from(u16::MAX) {
+        let far = Far {
+            strings,
+            start,
+            size,
+        };
+        return Ok(NameBytes::Far(Box::new(alloc, far)?));
     }
     Ok(NameBytes::Shared {
-        strings: strings.clone()?,
+        size: size as u16,
         start: start as u32,
-        size: size as u32,
+        strings,
     })
 }
 
-fn place_of(strings: &RcSlice<u8>, start: usize, size: usize) -> Result<NameBytes, AllocError>
+fn place_of(
+    alloc: Global,
+    strings: &RcSlice<u8>,
+    start: usize,
+    size: usize,
+) -> Result<NameBytes, AllocError>
     ensures { IfOk result (λ p. spec.bytes_at p
         ≡ take size (drop start (rc_slice_items strings.now))) }
 {
@@ -103,17 +130,22 @@ fn place_of(strings: &RcSlice<u8>, start: usize, size: usize) -> Result<NameByte
     if bytes.len() <= SHORT {
         Ok(here(bytes))
     } else {
-        shared(strings, start, size)
+        shared(alloc, strings, start, size)
     }
 }
 
 impl Name {
     /// So many bytes of strings from a place on, as far as they reach. It fails only for want of memory.
-    pub fn within(strings: &RcSlice<u8>, start: usize, size: usize) -> Result<Name, AllocError>
+    pub fn within(
+        alloc: Global,
+        strings: &RcSlice<u8>,
+        start: usize,
+        size: usize,
+    ) -> Result<Name, AllocError>
         ensures { IfOk result (λ name. name
             ≡ take size (drop start (rc_slice_items strings.now))) }
     {
-        let place = place_of(strings, start, size)?;
+        let place = place_of(alloc, strings, start, size)?;
         Ok(Name { place })
     }
 
@@ -123,7 +155,7 @@ impl Name {
         ensures { IfOk result (λ name. name ≡ bytes.now) }
     {
         let strings = RcSlice::from_slice(alloc, bytes)?;
-        Name::within(&strings, 0, bytes.len())
+        Name::within(alloc, &strings, 0, bytes.len())
     }
 
     /// The bytes, lent.
@@ -133,10 +165,14 @@ impl Name {
         match &self.place {
             NameBytes::Here { size, bytes } => first(bytes.as_slice(), usize::from(*size)),
             NameBytes::Shared {
-                strings,
-                start,
                 size,
-            } => first(rest(strings.as_slice(), *start as usize), *size as usize),
+                start,
+                strings,
+            } => first(
+                rest(strings.as_slice(), *start as usize),
+                usize::from(*size),
+            ),
+            NameBytes::Far(far) => first(rest(far.strings.as_slice(), far.start), far.size),
         }
     }
 }

@@ -113,12 +113,12 @@ impl StringEnds {
 
     /// The string that begins at an offset, as `string_at` gives it: none where it has no end. A long one shares the strings. It fails only for want of memory.
     #[tactic(auto, unfolding(crate::specs::StringEnds::string_size, pl_base::specs::Strings::string_at, pl_base::specs::Strings::ended))]
-    pub fn name_at(&self, at: u32) -> Result<Option<Name>, AllocError>
+    pub fn name_at(&self, alloc: Global, at: u32) -> Result<Option<Name>, AllocError>
         ensures { IfOk result (λ name. name ≡ string_at at self.now) }
     {
         match self.size_at(at) {
             None => Ok(None),
-            Some(size) => Ok(Some(Name::within(&self.strings, at as usize, size)?)),
+            Some(size) => Ok(Some(Name::within(alloc, &self.strings, at as usize, size)?)),
         }
     }
 }

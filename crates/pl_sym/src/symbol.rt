@@ -32,6 +32,9 @@ pub struct Symbol {
     pub version: u16,
 }
 
+// A folder's symbols are the most of what a command holds beside the files.
+const _: () = prove!(size_of::<Symbol>() == 40);
+
 impl Symbol {
     /// Whether its object only refers to it.
     #[tactic(auto, unfolding(crate::specs::Symbol::is_undefined))]

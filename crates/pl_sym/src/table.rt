@@ -10,13 +10,18 @@ use pl_ver::constants::VER_NDX_GLOBAL;
 use std::alloc::Global;
 
 #[tactic(auto, unfolding(crate::specs::Table::symbol_at))]
-fn symbol_at(table: &[u8], strings: &StringEnds, at: usize) -> Result<Symbol, SymFault>
+fn symbol_at(
+    alloc: Global,
+    table: &[u8],
+    strings: &StringEnds,
+    at: usize,
+) -> Result<Symbol, SymFault>
     requires { at + SYMBOL_SIZE ≤ length table.now }
     ensures { Answers spec.is_memory result (spec.symbol_at table.now strings.now at) }
 {
     let info = table[at + 4];
     let other = table[at + 5];
-    match strings.name_at(word32(table, at))? {
+    match strings.name_at(alloc, word32(table, at))? {
         None => Err(SymFault::BadSymbol),
         Some(name) => Ok(Symbol {
             name,
@@ -38,7 +43,7 @@ pub fn read_symbols(alloc: Global, table: &[u8], strings: &[u8]) -> Result<Rows<
     let ends = StringEnds::new(alloc, strings)?;
     let mut symbols = Rows::from_vec(Vec::with_capacity(alloc, table.len() / SYMBOL_SIZE)?);
     for index in 0..table.len() / SYMBOL_SIZE {
-        symbols.push(symbol_at(table, &ends, SYMBOL_SIZE * index)?)?;
+        symbols.push(symbol_at(alloc, table, &ends, SYMBOL_SIZE * index)?)?;
     }
     Ok(symbols)
 }
