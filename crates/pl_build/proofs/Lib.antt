@@ -5,3 +5,6 @@ pub mod LineLaws
 pub mod TextLaws
 pub mod NamedLaws
 pub mod PackedIndexLaws
+pub mod TagLaws
+pub mod WordLaws
+pub mod ListLaws

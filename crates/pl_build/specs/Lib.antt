@@ -29,3 +29,8 @@ pub mod Segments
 pub mod Sections
 pub mod File
 pub mod Build
+pub mod PlacedTags
+pub mod Derived
+pub mod WordTables
+pub mod SectionHeaders
+pub mod NamedSymbols

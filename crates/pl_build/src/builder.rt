@@ -38,7 +38,9 @@ fn made_of(alloc: Global, lines: Vec<Line>) -> Result<Rows<u8>, RecipeFault>
     }
     let recipe = gather(alloc, lines)?;
     let plan = plan_of(alloc, recipe)?;
-    made(alloc, &plan)
+    let file = made(alloc, &plan);
+    drop(plan);
+    file
 }
 
 /// The file that a recipe describes.

@@ -1,17 +1,26 @@
 // Rows of a table that may be there.
-ghost use Rattle.std.specs.Prelude.{◌≡◌, IfOk};
+ghost use Rattle.std.specs.Prelude.{◌≡◌, ◌∷◌, ◌++◌, [], OnOk};
 ghost use Rattle.pl_build.specs.Choices as spec;
 
-use std::alloc::{AllocError, Global};
+use std::alloc::AllocError;
 
-/// The rows that are there, in their order.
+/// Adds a row, if it is there.
 #[tactic(auto, unfolding(crate::specs::Choices::chosen))]
-pub fn chosen<T: Copy>(alloc: Global, choices: &[(bool, T)]) -> Result<Vec<T>, AllocError>
-    ensures { IfOk result (λ v. v.items ≡ spec.chosen choices.now) }
+fn push_one<T: Copy>(out: &mut Vec<T>, choice: &(bool, T)) -> Result<(), AllocError>
+    ensures { OnOk result (out.new.items ≡ out.old.items ++ spec.chosen (choice.now ∷ [])) }
 {
-    choices
-        .iter()
-        .filter(|choice| choice.0)
-        .map(|choice| choice.1)
-        .collect(alloc)
+    if choice.0 {
+        out.push(choice.1)?;
+    }
+    Ok(())
+}
+
+/// Adds the rows that are there, in their order.
+pub fn push_chosen<T: Copy>(out: &mut Vec<T>, choices: &[(bool, T)]) -> Result<(), AllocError>
+    ensures { OnOk result (out.new.items ≡ out.old.items ++ spec.chosen choices.now) }
+{
+    for choice in choices {
+        push_one(out, choice)?;
+    }
+    Ok(())
 }

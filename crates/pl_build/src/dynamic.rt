@@ -1,8 +1,9 @@
 // The dynamic table.
-ghost use Rattle.std.specs.Prelude.{◌≡◌, ◌+◌, IfOk, map, find};
+ghost use Rattle.std.specs.Prelude.{◌≡◌, ◌+◌, ◌++◌, IfOk, OnOk};
 ghost use Rattle.pl_build.specs.Dynamic as spec;
+ghost use Rattle.pl_build.specs.PlacedTags.{placed_tags};
 
-use crate::choices::chosen;
+use crate::choices::push_chosen;
 use crate::fields::{Field, Row, push_fields, push_rows};
 use crate::indexed_plan::IndexedPlan;
 use crate::names::is;
@@ -34,18 +35,6 @@ fn tag(number: u64, value: u64) -> Tag
     Tag { number, value }
 }
 
-fn is_at(name: &[u8], place: PlacedSection) -> bool
-    ensures { result ≡ spec.is_at name.now place }
-{
-    is(section_name(place.role), name)
-}
-
-fn find_place(places: &[PlacedSection], name: &[u8]) -> Option<PlacedSection>
-    ensures { result ≡ find (spec.is_at name.now) places.now }
-{
-    places.iter().copied().find(|place| is_at(name, *place))
-}
-
 /// The place of the null section.
 pub fn null_place() -> PlacedSection
     ensures { result ≡ spec.null_place }
@@ -63,7 +52,12 @@ pub fn null_place() -> PlacedSection
 pub fn place_of(places: &[PlacedSection], name: &[u8]) -> PlacedSection
     ensures { result ≡ spec.place_of places.now name.now }
 {
-    find_place(places, name).unwrap_or(null_place())
+    for place in places {
+        if is(section_name(place.role), name) {
+            return *place;
+        }
+    }
+    null_place()
 }
 
 /// Whether a section is there.
@@ -77,28 +71,28 @@ pub fn is_there(place: &PlacedSection) -> bool
 fn needed_tags(alloc: Global, plan: &IndexedPlan<'_>) -> Result<Vec<Tag>, AllocError>
     ensures { IfOk result (λ v. v.items ≡ spec.needed_tags plan.now) }
 {
-    plan.layout()
-        .needed
-        .as_slice()
-        .iter()
-        .map(|name| tag(DT_NEEDED, plan.text_at(name.as_slice())))
-        .collect(alloc)
+    let mut tags = Vec::new(alloc);
+    let names = plan.layout().needed.as_slice();
+    for name in names {
+        tags.push(tag(DT_NEEDED, plan.text_at(name.as_slice())))?;
+    }
+    Ok(tags)
 }
 
 #[tactic(auto, unfolding(crate::specs::Dynamic::table_tags))]
-fn table_tags(
-    alloc: Global,
+fn push_table_tags(
+    tags: &mut Vec<Tag>,
     plan: &IndexedPlan<'_>,
     places: &[PlacedSection],
-) -> Result<Vec<Tag>, AllocError>
-    ensures { IfOk result (λ v. v.items ≡ spec.table_tags plan.now places.now) }
+) -> Result<(), AllocError>
+    ensures { OnOk result (tags.new.items ≡ tags.old.items ++ spec.table_tags plan.now places.now) }
 {
     let hash = place_of(places, b".hash");
     let gnu_hash = place_of(places, b".gnu.hash");
     let strings = place_of(places, b".dynstr");
     let symbols = place_of(places, b".dynsym");
-    chosen(
-        alloc,
+    push_chosen(
+        tags,
         &[
             (is_there(&hash), tag(DT_HASH, hash.addr)),
             (is_there(&gnu_hash), tag(DT_GNU_HASH, gnu_hash.addr)),
@@ -112,13 +106,13 @@ fn table_tags(
 }
 
 #[tactic(auto, unfolding(crate::specs::Dynamic::relocation_tags))]
-fn relocation_tags(alloc: Global, places: &[PlacedSection]) -> Result<Vec<Tag>, AllocError>
-    ensures { IfOk result (λ v. v.items ≡ spec.relocation_tags places.now) }
+fn push_relocation_tags(tags: &mut Vec<Tag>, places: &[PlacedSection]) -> Result<(), AllocError>
+    ensures { OnOk result (tags.new.items ≡ tags.old.items ++ spec.relocation_tags places.now) }
 {
     let slots = place_of(places, b".rela.plt");
     let others = place_of(places, b".rela.dyn");
-    chosen(
-        alloc,
+    push_chosen(
+        tags,
         &[
             (is_there(&slots), tag(DT_PLTRELSZ, slots.size)),
             (is_there(&slots), tag(DT_PLTREL, DT_RELA)),
@@ -131,12 +125,12 @@ fn relocation_tags(alloc: Global, places: &[PlacedSection]) -> Result<Vec<Tag>, 
 }
 
 #[tactic(auto, unfolding(crate::specs::Dynamic::packed_tags))]
-fn packed_tags(alloc: Global, places: &[PlacedSection]) -> Result<Vec<Tag>, AllocError>
-    ensures { IfOk result (λ v. v.items ≡ spec.packed_tags places.now) }
+fn push_packed_tags(tags: &mut Vec<Tag>, places: &[PlacedSection]) -> Result<(), AllocError>
+    ensures { OnOk result (tags.new.items ≡ tags.old.items ++ spec.packed_tags places.now) }
 {
     let packed = place_of(places, b".relr.dyn");
-    chosen(
-        alloc,
+    push_chosen(
+        tags,
         &[
             (is_there(&packed), tag(DT_RELR, packed.addr)),
             (is_there(&packed), tag(DT_RELRSZ, packed.size)),
@@ -146,20 +140,20 @@ fn packed_tags(alloc: Global, places: &[PlacedSection]) -> Result<Vec<Tag>, Allo
 }
 
 #[tactic(auto, unfolding(crate::specs::Dynamic::version_tags))]
-fn version_tags(
-    alloc: Global,
+fn push_version_tags(
+    tags: &mut Vec<Tag>,
     plan: &IndexedPlan<'_>,
     places: &[PlacedSection],
-) -> Result<Vec<Tag>, AllocError>
-    ensures { IfOk result (λ v. v.items ≡ spec.version_tags plan.now places.now) }
+) -> Result<(), AllocError>
+    ensures { OnOk result (tags.new.items ≡ tags.old.items ++ spec.version_tags plan.now places.now) }
 {
     let words = place_of(places, b".gnu.version");
     let defined = place_of(places, b".gnu.version_d");
     let needed = place_of(places, b".gnu.version_r");
     let defs = plan.layout().versions.as_slice().len() as u64 + 1;
     let files = plan.layout().files.as_slice().len() as u64;
-    chosen(
-        alloc,
+    push_chosen(
+        tags,
         &[
             (is_there(&words), tag(DT_VERSYM, words.addr)),
             (is_there(&defined), tag(DT_VERDEF, defined.addr)),
@@ -180,13 +174,13 @@ fn flags_1(settings: &Settings) -> u64
 }
 
 #[tactic(auto, unfolding(crate::specs::Dynamic::usual_tags))]
-fn usual_tags(alloc: Global, plan: &IndexedPlan<'_>) -> Result<Vec<Tag>, AllocError>
-    ensures { IfOk result (λ v. v.items ≡ spec.usual_tags plan.now) }
+fn push_usual_tags(tags: &mut Vec<Tag>, plan: &IndexedPlan<'_>) -> Result<(), AllocError>
+    ensures { OnOk result (tags.new.items ≡ tags.old.items ++ spec.usual_tags plan.now) }
 {
     let usual = plan.layout().settings.usual;
     let flags_1 = flags_1(&plan.layout().settings);
-    chosen(
-        alloc,
+    push_chosen(
+        tags,
         &[
             (
                 usual && plan.layout().settings.kind.is_program(),
@@ -208,8 +202,26 @@ fn spare_tags(alloc: Global, plan: &IndexedPlan<'_>) -> Result<Vec<Tag>, AllocEr
         .collect(alloc)
 }
 
+/// The tags that say where the other tables stand, those of a usual file, and the end.
+#[tactic(auto, unfolding(crate::specs::PlacedTags::placed_tags))]
+fn push_placed_tags(
+    tags: &mut Vec<Tag>,
+    plan: &IndexedPlan<'_>,
+    places: &[PlacedSection],
+) -> Result<(), AllocError>
+    ensures { OnOk result (tags.new.items ≡ tags.old.items ++ placed_tags plan.now places.now) }
+{
+    push_table_tags(tags, plan, places)?;
+    push_relocation_tags(tags, places)?;
+    push_packed_tags(tags, places)?;
+    push_version_tags(tags, plan, places)?;
+    push_usual_tags(tags, plan)?;
+    tags.push(tag(DT_NULL, 0))?;
+    Ok(())
+}
+
 /// The bytes of the dynamic table, for tables that stand at places.
-#[tactic(auto, unfolding(crate::specs::Dynamic::dynamic_table))]
+#[tactic(auto, using(crate::proofs::TagLaws::table_written), unfolding(crate::specs::Dynamic::dynamic_table, crate::specs::PlacedTags::placed_tags))]
 pub fn dynamic_table(
     alloc: Global,
     plan: &IndexedPlan<'_>,
@@ -217,14 +229,10 @@ pub fn dynamic_table(
 ) -> Result<Vec<u8>, AllocError>
     ensures { IfOk result (λ v. v.items ≡ spec.dynamic_table plan.now places.now) }
 {
+    let mut tags = needed_tags(alloc, plan)?;
+    push_placed_tags(&mut tags, plan, places)?;
+    tags.extend_from_slice(spare_tags(alloc, plan)?.as_slice())?;
     let mut out = Vec::new(alloc);
-    push_rows(&mut out, needed_tags(alloc, plan)?.as_slice())?;
-    push_rows(&mut out, table_tags(alloc, plan, places)?.as_slice())?;
-    push_rows(&mut out, relocation_tags(alloc, places)?.as_slice())?;
-    push_rows(&mut out, packed_tags(alloc, places)?.as_slice())?;
-    push_rows(&mut out, version_tags(alloc, plan, places)?.as_slice())?;
-    push_rows(&mut out, usual_tags(alloc, plan)?.as_slice())?;
-    push_rows(&mut out, &[tag(DT_NULL, 0)])?;
-    push_rows(&mut out, spare_tags(alloc, plan)?.as_slice())?;
+    push_rows(&mut out, tags.as_slice())?;
     Ok(out)
 }

@@ -1,7 +1,9 @@
 // The file.
 ghost use Rattle.std.specs.Prelude.{◌≡◌, ◌++◌, ◌+◌, ◌*◌, ◌≤◌, ◌<◌, ◌^◌, IfOk, OnOk};
 ghost use Rattle.pl_build.specs.Build.{Builds};
+ghost use Rattle.pl_build.specs.Data.{data_bytes};
 ghost use Rattle.pl_build.specs.File as spec;
+ghost use Rattle.pl_build.specs.SectionHeaders as headers;
 ghost use Rattle.pl_build.specs.Layout as layout;
 
 use crate::constants::{INTERP_OFFSET, MAX_FILE, MAX_TABLES, TABLE_ALIGN, TABLES_OFFSET};
@@ -171,6 +173,35 @@ fn up_to_data(
     Ok(out)
 }
 
+/// Adds the data.
+fn push_data(alloc: Global, out: &mut Vec<u8>, plan: &LayoutPlan) -> Result<(), AllocError>
+    ensures { OnOk result (out.new.items ≡ out.old.items
+        ++ data_bytes plan.now.settings.data_size plan.now.words) }
+{
+    let bytes = data_bytes(alloc, plan.settings.data_size, plan.words.as_slice())?;
+    out.extend_from_slice(bytes.as_slice())
+}
+
+/// Adds the section header table.
+fn push_sections(
+    alloc: Global,
+    out: &mut Vec<u8>,
+    plan: &LayoutPlan,
+    tables: &Tables,
+    tables_end: u64,
+    names: &StringTable,
+) -> Result<(), AllocError>
+    requires tables { tables_end < 2 ^ 32 }
+    requires size { plan.now.settings.data_size < 2 ^ 32 }
+    ensures { OnOk result (out.new.items ≡ out.old.items
+        ++ headers.section_headers plan.now tables.now tables_end names.now) }
+{
+    let names_size = names.bytes.len() as u64;
+    let places = places_of(alloc, plan, tables, data_offset(tables_end), names_size)?;
+    let rows = section_rows(alloc, plan, names, places.as_slice())?;
+    push_rows(out, rows.as_slice())
+}
+
 #[tactic(auto, unfolding(crate::specs::File::file_of))]
 fn file_of(
     alloc: Global,
@@ -185,16 +216,11 @@ fn file_of(
     ensures { IfOk result (λ v. v.items ≡ spec.file_of plan.now tables.now tables_end names.now
         shoff) }
 {
-    let size = plan.settings.data_size;
-    let names_size = names.bytes.len() as u64;
-    let places = places_of(alloc, plan, tables, data_offset(tables_end), names_size)?;
-    let rows = section_rows(alloc, plan, names, places.as_slice())?;
-    let data = data_bytes(alloc, size, plan.words.as_slice())?;
     let mut out = up_to_data(alloc, plan, tables, tables_end, shoff)?;
-    out.extend_from_slice(data.as_slice())?;
+    push_data(alloc, &mut out, plan)?;
     out.extend_from_slice(names.bytes.as_slice())?;
     fill_to(&mut out, shoff)?;
-    push_rows(&mut out, rows.as_slice())?;
+    push_sections(alloc, &mut out, plan, tables, tables_end, names)?;
     Ok(out)
 }
 

@@ -1,7 +1,7 @@
 // The hash tables of symbols.
-ghost use Rattle.std.specs.Prelude.{◌≡◌, ◌+◌, ◌<◌, ◌≤◌, IfOk, map, filter, count_by, length};
-ghost use Rattle.std.specs.List.{range_with_len};
+ghost use Rattle.std.specs.Prelude.{◌≡◌, ◌+◌, ◌++◌, ◌<◌, ◌≤◌, IfOk, OnOk, count_by, length};
 ghost use Rattle.pl_build.specs.Symbols.{is_undefined};
+ghost use Rattle.pl_build.specs.WordTables.{words};
 ghost use Rattle.pl_build.specs.HashTables as spec;
 
 use crate::constants::{BLOOM_COUNT, BLOOM_SHIFT_BITS};
@@ -29,12 +29,13 @@ fn found(buckets: &[u64], from: usize, bucket: u64) -> Option<usize>
 fn sysv_buckets(alloc: Global, plan: &LayoutPlan) -> Result<Vec<u64>, AllocError>
     ensures { IfOk result (λ v. v.items ≡ spec.sysv_buckets plan.now) }
 {
-    let buckets = plan.settings.buckets;
-    plan.symbols
-        .as_slice()
-        .iter()
-        .map(|symbol| bucket_of(buckets, sysv_hash(symbol.name.as_slice())))
-        .collect(alloc)
+    let mut buckets = Vec::new(alloc);
+    let count = plan.settings.buckets;
+    let symbols = plan.symbols.as_slice();
+    for symbol in symbols {
+        buckets.push(bucket_of(count, sysv_hash(symbol.name.as_slice())))?;
+    }
+    Ok(buckets)
 }
 
 #[tactic(auto, unfolding(crate::specs::HashTables::first_from))]
@@ -56,22 +57,26 @@ fn next_after(buckets: &[u64], index: usize) -> u64
     first_from(buckets, index + 1, buckets[index])
 }
 
-fn sysv_heads(alloc: Global, count: u64, buckets: &[u64]) -> Result<Vec<Field>, AllocError>
-    ensures { IfOk result (λ v. v.items ≡ map (λ b. Field.Word (spec.first_from buckets.now 0 b))
-        (range_with_len 0 count)) }
+/// Adds the number of the first symbol of each bucket.
+fn push_sysv_heads(out: &mut Vec<u8>, count: u64, buckets: &[u64]) -> Result<(), AllocError>
+    ensures { OnOk result (out.new.items ≡ out.old.items
+        ++ words (spec.first_from buckets.now 0) count) }
 {
-    (0..count)
-        .map(|bucket| Field::Word(first_from(buckets, 0, bucket)))
-        .collect(alloc)
+    for bucket in 0..count {
+        push_fields(out, &[Field::Word(first_from(buckets, 0, bucket))])?;
+    }
+    Ok(())
 }
 
-fn sysv_chains(alloc: Global, buckets: &[u64]) -> Result<Vec<Field>, AllocError>
-    ensures { IfOk result (λ v. v.items ≡ map (λ k. Field.Word (spec.next_after buckets.now k))
-        (range_with_len 0 (length buckets.now))) }
+/// Adds, for each symbol, the number of the next one of its bucket.
+fn push_sysv_chains(out: &mut Vec<u8>, buckets: &[u64]) -> Result<(), AllocError>
+    ensures { OnOk result (out.new.items ≡ out.old.items
+        ++ words (spec.next_after buckets.now) (length buckets.now)) }
 {
-    (0..buckets.len())
-        .map(|index| Field::Word(next_after(buckets, index)))
-        .collect(alloc)
+    for index in 0..buckets.len() {
+        push_fields(out, &[Field::Word(next_after(buckets, index))])?;
+    }
+    Ok(())
 }
 
 #[tactic(auto, unfolding(crate::specs::HashTables::sysv_words))]
@@ -83,9 +88,9 @@ fn sysv_words(alloc: Global, count: u64, buckets: &[u64]) -> Result<Vec<u8>, All
         &mut out,
         &[Field::Word(count), Field::Word(buckets.len() as u64 + 1)],
     )?;
-    push_fields(&mut out, sysv_heads(alloc, count, buckets)?.as_slice())?;
+    push_sysv_heads(&mut out, count, buckets)?;
     push_fields(&mut out, &[Field::Word(0)])?;
-    push_fields(&mut out, sysv_chains(alloc, buckets)?.as_slice())?;
+    push_sysv_chains(&mut out, buckets)?;
     Ok(out)
 }
 
@@ -114,21 +119,24 @@ fn hash_of(symbol: &SymbolLine) -> u32
 fn gnu_hashes(alloc: Global, symbols: &[SymbolLine]) -> Result<Vec<u32>, AllocError>
     ensures { IfOk result (λ v. v.items ≡ spec.gnu_hashes symbols.now) }
 {
-    symbols
-        .iter()
-        .filter(|symbol| is_defined(symbol))
-        .map(|symbol| hash_of(symbol))
-        .collect(alloc)
+    let mut hashes = Vec::new(alloc);
+    for symbol in symbols {
+        if is_defined(symbol) {
+            hashes.push(hash_of(symbol))?;
+        }
+    }
+    Ok(hashes)
 }
 
 #[tactic(auto, unfolding(crate::specs::HashTables::gnu_buckets))]
 fn gnu_buckets(alloc: Global, count: u64, hashes: &[u32]) -> Result<Vec<u64>, AllocError>
     ensures { IfOk result (λ v. v.items ≡ spec.gnu_buckets count hashes.now) }
 {
-    hashes
-        .iter()
-        .map(|hash| bucket_of(count, *hash))
-        .collect(alloc)
+    let mut buckets = Vec::new(alloc);
+    for hash in hashes {
+        buckets.push(bucket_of(count, *hash))?;
+    }
+    Ok(buckets)
 }
 
 fn undefined_count(symbols: &[SymbolLine]) -> usize
@@ -194,28 +202,32 @@ fn gnu_chain(hashes: &[u32], buckets: &[u64], index: usize) -> u64
     }
 }
 
-fn gnu_heads(
-    alloc: Global,
+/// Adds the number of the first symbol of each bucket, where the first of all has a number.
+fn push_gnu_heads(
+    out: &mut Vec<u8>,
     count: u64,
     first: usize,
     buckets: &[u64],
-) -> Result<Vec<Field>, AllocError>
-    ensures { IfOk result (λ v. v.items ≡ map (λ b. Field.Word (spec.gnu_first first buckets.now b))
-        (range_with_len 0 count)) }
+) -> Result<(), AllocError>
+    ensures { OnOk result (out.new.items ≡ out.old.items
+        ++ words (spec.gnu_first first buckets.now) count) }
 {
-    (0..count)
-        .map(|bucket| Field::Word(gnu_first(first, buckets, bucket)))
-        .collect(alloc)
+    for bucket in 0..count {
+        push_fields(out, &[Field::Word(gnu_first(first, buckets, bucket))])?;
+    }
+    Ok(())
 }
 
-fn gnu_chains(alloc: Global, hashes: &[u32], buckets: &[u64]) -> Result<Vec<Field>, AllocError>
+/// Adds the hash of each symbol, with the bit that ends its bucket.
+fn push_gnu_chains(out: &mut Vec<u8>, hashes: &[u32], buckets: &[u64]) -> Result<(), AllocError>
     requires { length buckets.now ≡ length hashes.now }
-    ensures { IfOk result (λ v. v.items ≡ map (λ k. Field.Word
-        (spec.gnu_chain hashes.now buckets.now k)) (range_with_len 0 (length hashes.now))) }
+    ensures { OnOk result (out.new.items ≡ out.old.items
+        ++ words (spec.gnu_chain hashes.now buckets.now) (length hashes.now)) }
 {
-    (0..hashes.len())
-        .map(|index| Field::Word(gnu_chain(hashes, buckets, index)))
-        .collect(alloc)
+    for index in 0..hashes.len() {
+        push_fields(out, &[Field::Word(gnu_chain(hashes, buckets, index))])?;
+    }
+    Ok(())
 }
 
 #[tactic(auto, unfolding(crate::specs::HashTables::gnu_words))]
@@ -240,11 +252,8 @@ fn gnu_words(
             Field::Xword(bloom(hashes)),
         ],
     )?;
-    push_fields(
-        &mut out,
-        gnu_heads(alloc, count, first, buckets)?.as_slice(),
-    )?;
-    push_fields(&mut out, gnu_chains(alloc, hashes, buckets)?.as_slice())?;
+    push_gnu_heads(&mut out, count, first, buckets)?;
+    push_gnu_chains(&mut out, hashes, buckets)?;
     Ok(out)
 }
 

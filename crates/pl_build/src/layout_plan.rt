@@ -1,9 +1,10 @@
 // What follows from a recipe before anything is laid out.
-ghost use Rattle.std.specs.Prelude.{◌≡◌, ◌<◌, ◌^◌, IfOk};
+ghost use Rattle.std.specs.Prelude.{◌≡◌, ◌<◌, ◌^◌, ◌++◌, IfOk, OnOk};
 ghost use Rattle.std.specs.List.{list_any};
+ghost use Rattle.pl_build.specs.Derived as parts;
 ghost use Rattle.pl_build.specs.LayoutPlan as spec;
 
-use crate::choices::chosen;
+use crate::choices::push_chosen;
 use crate::constants::{BASE, DATA_DISTANCE};
 use crate::line::{DataWord, PackedWord, Relocation, SymbolLine};
 use crate::needed::{Need, files_of, needs_of};
@@ -44,6 +45,17 @@ pub struct LayoutPlan {
     pub roles: Rows<Role>,
 }
 
+/// What is worked out of a recipe for its layout: what the plan has and the recipe has not as it is.
+#[derive(Drop)]
+pub struct Derived {
+    pub words: Rows<DataWord>,
+    pub needs: Rows<Need>,
+    pub roles: Rows<Role>,
+    pub symbols: Rows<SymbolLine>,
+    pub files: Rows<Rows<u8>>,
+    pub strings: StringTable,
+}
+
 /// The address of the file's first byte.
 #[tactic(auto, unfolding(crate::specs::LayoutPlan::base_of))]
 pub fn base_of(settings: &Settings) -> u64
@@ -80,6 +92,13 @@ pub fn is_jump_slot(relocation: &Relocation) -> bool
     relocation.kind == R_X86_64_JUMP_SLOT
 }
 
+/// Whether a relocation is another one.
+pub fn is_other(relocation: &Relocation) -> bool
+    ensures { result ≡ spec.is_other relocation.now }
+{
+    !is_jump_slot(relocation)
+}
+
 fn has_jump_slots(relocations: &[Relocation]) -> bool
     ensures { result ≡ list_any spec.is_jump_slot relocations.now }
 {
@@ -89,7 +108,7 @@ fn has_jump_slots(relocations: &[Relocation]) -> bool
 fn has_others(relocations: &[Relocation]) -> bool
     ensures { result ≡ list_any spec.is_other relocations.now }
 {
-    relocations.iter().any(|r| !is_jump_slot(r))
+    relocations.iter().any(|r| is_other(r))
 }
 
 fn has_versioned(symbols: &[SymbolLine]) -> bool
@@ -106,12 +125,12 @@ fn has_versions(recipe: &Recipe) -> bool
 }
 
 #[tactic(auto, unfolding(crate::specs::LayoutPlan::first_roles))]
-fn first_roles(alloc: Global, settings: &Settings) -> Result<Vec<Role>, AllocError>
-    ensures { IfOk result (λ v. v.items ≡ spec.first_roles settings.now) }
+fn push_first_roles(roles: &mut Vec<Role>, settings: &Settings) -> Result<(), AllocError>
+    ensures { OnOk result (roles.new.items ≡ roles.old.items ++ spec.first_roles settings.now) }
 {
     let linked = !settings.kind.is_static();
-    chosen(
-        alloc,
+    push_chosen(
+        roles,
         &[
             (true, Role::Null),
             (has_interp(settings), Role::Interp),
@@ -124,12 +143,12 @@ fn first_roles(alloc: Global, settings: &Settings) -> Result<Vec<Role>, AllocErr
 }
 
 #[tactic(auto, unfolding(crate::specs::LayoutPlan::next_roles))]
-fn next_roles(alloc: Global, recipe: &Recipe, needs: &[Need]) -> Result<Vec<Role>, AllocError>
-    ensures { IfOk result (λ v. v.items ≡ spec.next_roles recipe.now needs.now) }
+fn push_next_roles(roles: &mut Vec<Role>, recipe: &Recipe, needs: &[Need]) -> Result<(), AllocError>
+    ensures { OnOk result (roles.new.items ≡ roles.old.items ++ spec.next_roles recipe.now needs.now) }
 {
     let relocations = recipe.relocations.as_slice();
-    chosen(
-        alloc,
+    push_chosen(
+        roles,
         &[
             (has_versions(recipe), Role::Versym),
             (recipe.versions.len() != 0, Role::Verdef),
@@ -142,11 +161,11 @@ fn next_roles(alloc: Global, recipe: &Recipe, needs: &[Need]) -> Result<Vec<Role
 }
 
 #[tactic(auto, unfolding(crate::specs::LayoutPlan::last_roles))]
-fn last_roles(alloc: Global, settings: &Settings) -> Result<Vec<Role>, AllocError>
-    ensures { IfOk result (λ v. v.items ≡ spec.last_roles settings.now) }
+fn push_last_roles(roles: &mut Vec<Role>, settings: &Settings) -> Result<(), AllocError>
+    ensures { OnOk result (roles.new.items ≡ roles.old.items ++ spec.last_roles settings.now) }
 {
-    chosen(
-        alloc,
+    push_chosen(
+        roles,
         &[
             (!settings.kind.is_static(), Role::Dynamic),
             (true, Role::Data),
@@ -160,9 +179,10 @@ fn last_roles(alloc: Global, settings: &Settings) -> Result<Vec<Role>, AllocErro
 fn roles_of(alloc: Global, recipe: &Recipe, needs: &[Need]) -> Result<Rows<Role>, AllocError>
     ensures { IfOk result (λ v. v ≡ spec.roles_of recipe.now needs.now) }
 {
-    let mut roles = first_roles(alloc, &recipe.settings)?;
-    roles.extend_from_slice(next_roles(alloc, recipe, needs)?.as_slice())?;
-    roles.extend_from_slice(last_roles(alloc, &recipe.settings)?.as_slice())?;
+    let mut roles = Vec::new(alloc);
+    push_first_roles(&mut roles, &recipe.settings)?;
+    push_next_roles(&mut roles, recipe, needs)?;
+    push_last_roles(&mut roles, &recipe.settings)?;
     Ok(Rows::from_vec(roles))
 }
 
@@ -182,23 +202,35 @@ fn strings_of(
     Ok(add_files(alloc, strings, needs, files)?.into_table())
 }
 
-/// What is to be laid out for a recipe.
-#[tactic(auto, unfolding(crate::specs::LayoutPlan::plan_of))]
-pub fn plan_of(alloc: Global, recipe: Recipe) -> Result<LayoutPlan, AllocError>
-    ensures { IfOk result (λ p. p ≡ spec.plan_of recipe) }
+#[tactic(auto, unfolding(crate::specs::Derived::derived_of))]
+fn derived_of(alloc: Global, recipe: &Recipe) -> Result<Derived, AllocError>
+    ensures { IfOk result (λ d. d ≡ parts.derived_of recipe.now) }
 {
-    let symbols = ordered(alloc, &recipe.settings, recipe.symbols.as_slice())?;
+    let words = data_words(alloc, recipe)?;
     let needs = needs_of(alloc, recipe.symbols.as_slice())?;
+    let roles = roles_of(alloc, recipe, needs.as_slice())?;
+    let symbols = ordered(alloc, &recipe.settings, recipe.symbols.as_slice())?;
     let files = files_of(alloc, needs.as_slice())?;
     let strings = strings_of(
         alloc,
-        &recipe,
+        recipe,
         symbols.as_slice(),
         needs.as_slice(),
         files.as_slice(),
     )?;
-    let roles = roles_of(alloc, &recipe, needs.as_slice())?;
-    let words = data_words(alloc, &recipe)?;
+    Ok(Derived {
+        words,
+        needs,
+        roles,
+        symbols,
+        files,
+        strings,
+    })
+}
+
+fn assembled(recipe: Recipe, derived: Derived) -> LayoutPlan
+    ensures { result ≡ parts.assembled recipe derived }
+{
     let Recipe {
         settings,
         needs: needed,
@@ -208,7 +240,15 @@ pub fn plan_of(alloc: Global, recipe: Recipe) -> Result<LayoutPlan, AllocError>
         relocations,
         packed,
     } = recipe;
-    Ok(LayoutPlan {
+    let Derived {
+        words,
+        needs,
+        roles,
+        symbols,
+        files,
+        strings,
+    } = derived;
+    LayoutPlan {
         settings,
         needed,
         words,
@@ -220,5 +260,13 @@ pub fn plan_of(alloc: Global, recipe: Recipe) -> Result<LayoutPlan, AllocError>
         files,
         strings,
         roles,
-    })
+    }
+}
+
+/// What is to be laid out for a recipe.
+pub fn plan_of(alloc: Global, recipe: Recipe) -> Result<LayoutPlan, AllocError>
+    ensures { IfOk result (λ p. p ≡ spec.plan_of recipe) }
+{
+    let derived = derived_of(alloc, &recipe)?;
+    Ok(assembled(recipe, derived))
 }

@@ -1,5 +1,5 @@
 // The versions that are needed of other files, and those files.
-ghost use Rattle.std.specs.Prelude.{◌≡◌, IfOk};
+ghost use Rattle.std.specs.Prelude.{◌≡◌, IfOk, OnOk};
 ghost use Rattle.std.specs.List.{list_any};
 ghost use Rattle.std.specs.Str.{bytes_eq};
 ghost use Rattle.pl_build.specs.Needed as spec;
@@ -39,18 +39,15 @@ fn has_need(needs: &[Need], symbol: &SymbolLine) -> bool
 }
 
 #[tactic(auto, unfolding(crate::specs::Needed::need_added))]
-fn add_need(alloc: Global, needs: Rows<Need>, symbol: &SymbolLine) -> Result<Rows<Need>, AllocError>
-    ensures { IfOk result (λ v. v ≡ spec.need_added needs symbol.now) }
+fn add_need(alloc: Global, needs: &mut Rows<Need>, symbol: &SymbolLine) -> Result<(), AllocError>
+    ensures { OnOk result (needs.new ≡ spec.need_added needs.old symbol.now) }
 {
     if symbol.file.len() == 0 || has_need(needs.as_slice(), symbol) {
-        return Ok(needs);
+        return Ok(());
     }
-    let mut needs = needs;
-    needs.push(Need {
-        file: copy_of(alloc, symbol.file.as_slice())?,
-        version: copy_of(alloc, symbol.version.as_slice())?,
-    })?;
-    Ok(needs)
+    let file = copy_of(alloc, symbol.file.as_slice())?;
+    let version = copy_of(alloc, symbol.version.as_slice())?;
+    needs.push(Need { file, version })
 }
 
 /// The versions that symbols need of other files, each once, in the order of their first use.
@@ -60,7 +57,7 @@ pub fn needs_of(alloc: Global, symbols: &[SymbolLine]) -> Result<Rows<Need>, All
 {
     let mut needs = Rows::new(alloc);
     for symbol in symbols {
-        needs = add_need(alloc, needs, symbol)?;
+        add_need(alloc, &mut needs, symbol)?;
     }
     Ok(needs)
 }
@@ -72,15 +69,13 @@ fn has_file(files: &[Rows<u8>], name: &[u8]) -> bool
 }
 
 #[tactic(auto, unfolding(crate::specs::Needed::file_added))]
-fn add_file(alloc: Global, files: Rows<Rows<u8>>, need: &Need) -> Result<Rows<Rows<u8>>, AllocError>
-    ensures { IfOk result (λ v. v ≡ spec.file_added files need.now) }
+fn add_file(alloc: Global, files: &mut Rows<Rows<u8>>, need: &Need) -> Result<(), AllocError>
+    ensures { OnOk result (files.new ≡ spec.file_added files.old need.now) }
 {
     if has_file(files.as_slice(), need.file.as_slice()) {
-        return Ok(files);
+        return Ok(());
     }
-    let mut files = files;
-    files.push(copy_of(alloc, need.file.as_slice())?)?;
-    Ok(files)
+    files.push(copy_of(alloc, need.file.as_slice())?)
 }
 
 /// The files of needed versions, each once, in the order of their first use.
@@ -90,7 +85,7 @@ pub fn files_of(alloc: Global, needs: &[Need]) -> Result<Rows<Rows<u8>>, AllocEr
 {
     let mut files = Rows::new(alloc);
     for need in needs {
-        files = add_file(alloc, files, need)?;
+        add_file(alloc, &mut files, need)?;
     }
     Ok(files)
 }

@@ -1,5 +1,5 @@
 // Words that the packed table relocates.
-ghost use Rattle.std.specs.Prelude.{◌≡◌, IfOk, map};
+ghost use Rattle.std.specs.Prelude.{◌≡◌, ◌++◌, IfOk, OnOk, map};
 ghost use Rattle.pl_build.specs.Packed as spec;
 ghost use Rattle.pl_build.specs.LayoutPlan as plan;
 ghost use Rattle.pl_build.specs.Recipe as gathering;
@@ -43,15 +43,15 @@ fn data_word(settings: &Settings, word: PackedWord) -> DataWord
     }
 }
 
-fn packed_words(alloc: Global, recipe: &Recipe) -> Result<Vec<DataWord>, AllocError>
-    ensures { IfOk result (λ v. v.items ≡ map (plan.data_word recipe.now.settings)
-        recipe.now.packed) }
+fn push_packed_words(words: &mut Vec<DataWord>, recipe: &Recipe) -> Result<(), AllocError>
+    ensures { OnOk result (words.new.items ≡ words.old.items
+        ++ map (plan.data_word recipe.now.settings) recipe.now.packed) }
 {
     let packed = recipe.packed.as_slice();
-    packed
-        .iter()
-        .map(|word| data_word(&recipe.settings, *word))
-        .collect(alloc)
+    for word in packed {
+        words.push(data_word(&recipe.settings, *word))?;
+    }
+    Ok(())
 }
 
 /// All words of the data: those of the lines `word`, then the packed ones.
@@ -60,7 +60,7 @@ pub fn data_words(alloc: Global, recipe: &Recipe) -> Result<Rows<DataWord>, Allo
     ensures { IfOk result (λ words. words ≡ plan.data_words recipe.now) }
 {
     let mut words = Vec::from_slice(alloc, recipe.words.as_slice())?;
-    words.extend_from_slice(packed_words(alloc, recipe)?.as_slice())?;
+    push_packed_words(&mut words, recipe)?;
     Ok(Rows::from_vec(words))
 }
 
@@ -68,11 +68,12 @@ fn packed_places(alloc: Global, plan: &LayoutPlan) -> Result<Vec<u64>, AllocErro
     ensures { IfOk result (λ v. v.items
         ≡ map (spec.packed_place plan.now.settings) plan.now.packed) }
 {
+    let mut places = Vec::new(alloc);
     let packed = plan.packed.as_slice();
-    packed
-        .iter()
-        .map(|word| data_address(&plan.settings).wrapping_add(word.offset))
-        .collect(alloc)
+    for word in packed {
+        places.push(data_address(&plan.settings).wrapping_add(word.offset))?;
+    }
+    Ok(places)
 }
 
 /// The bytes of `.relr.dyn`: the table of the packed places.

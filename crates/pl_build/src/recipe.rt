@@ -1,4 +1,4 @@
-ghost use Rattle.std.specs.Prelude.{◌≡◌, IfOk};
+ghost use Rattle.std.specs.Prelude.{◌≡◌, IfOk, OnOk};
 ghost use Rattle.pl_build.specs.Recipe as spec;
 
 use crate::constants::{BUCKETS, SPARE};
@@ -71,51 +71,21 @@ fn empty(alloc: Global) -> Recipe
     }
 }
 
-fn set(settings: Settings, line: &Line) -> Settings
-    ensures { result ≡ spec.set settings line.now }
+fn set(settings: &mut Settings, line: &Line)
+    ensures { settings.new ≡ spec.set settings.old line.now }
 {
     match line {
-        Line::First(kind) => Settings {
-            kind: *kind,
-            ..settings
-        },
-        Line::Usual => Settings {
-            usual: true,
-            ..settings
-        },
-        Line::Hash(hashes) => Settings {
-            hashes: *hashes,
-            ..settings
-        },
-        Line::Buckets(buckets) => Settings {
-            buckets: *buckets,
-            ..settings
-        },
-        Line::Spare(spare) => Settings {
-            spare: *spare,
-            ..settings
-        },
-        Line::Symbolic => Settings {
-            symbolic: true,
-            ..settings
-        },
-        Line::Entry(offset) => Settings {
-            entry: Some(*offset),
-            ..settings
-        },
-        Line::Data(size) => Settings {
-            data_size: *size,
-            ..settings
-        },
-        Line::Bss(bss) => Settings {
-            bss: *bss,
-            ..settings
-        },
-        Line::Tls(tls) => Settings {
-            tls: Some(*tls),
-            ..settings
-        },
-        _ => settings,
+        Line::First(kind) => settings.kind = *kind,
+        Line::Usual => settings.usual = true,
+        Line::Hash(hashes) => settings.hashes = *hashes,
+        Line::Buckets(buckets) => settings.buckets = *buckets,
+        Line::Spare(spare) => settings.spare = *spare,
+        Line::Symbolic => settings.symbolic = true,
+        Line::Entry(offset) => settings.entry = Some(*offset),
+        Line::Data(size) => settings.data_size = *size,
+        Line::Bss(bss) => settings.bss = *bss,
+        Line::Tls(tls) => settings.tls = Some(*tls),
+        _ => {}
     }
 }
 
@@ -144,38 +114,20 @@ fn sorted_recipe(recipe: Recipe) -> Result<Recipe, AllocError>
 }
 
 /// One line more; a packed word stands behind all others.
-fn add(recipe: Recipe, line: Line) -> Result<Recipe, AllocError>
-    ensures { IfOk result (λ r. r ≡ spec.pushed recipe line) }
+fn add(recipe: &mut Recipe, line: Line) -> Result<(), AllocError>
+    ensures { OnOk result (recipe.new ≡ spec.pushed recipe.old line) }
 {
-    let mut recipe = recipe;
     match line {
-        Line::Needs(name) => {
-            recipe.needs.push(name)?;
-            Ok(recipe)
-        }
-        Line::Put(word) => {
-            recipe.words.push(word)?;
-            Ok(recipe)
-        }
-        Line::Version(name) => {
-            recipe.versions.push(name)?;
-            Ok(recipe)
-        }
-        Line::Names(symbol) => {
-            recipe.symbols.push(symbol)?;
-            Ok(recipe)
-        }
-        Line::Relocates(relocation) => {
-            recipe.relocations.push(relocation)?;
-            Ok(recipe)
-        }
-        Line::Packs(word) => {
-            recipe.packed.push(word)?;
-            Ok(recipe)
-        }
+        Line::Needs(name) => recipe.needs.push(name),
+        Line::Put(word) => recipe.words.push(word),
+        Line::Version(name) => recipe.versions.push(name),
+        Line::Names(symbol) => recipe.symbols.push(symbol),
+        Line::Relocates(relocation) => recipe.relocations.push(relocation),
+        Line::Packs(word) => recipe.packed.push(word),
         other => {
-            recipe.settings = set(recipe.settings, &other);
-            Ok(recipe)
+            set(&mut recipe.settings, &other);
+            drop(other);
+            Ok(())
         }
     }
 }
@@ -186,7 +138,7 @@ pub fn gather(alloc: Global, lines: Vec<Line>) -> Result<Recipe, AllocError>
 {
     let mut recipe = empty(alloc);
     for line in lines {
-        recipe = add(recipe, line)?;
+        add(&mut recipe, line)?;
     }
     let whole = sorted_recipe(recipe)?;
     Ok(whole)

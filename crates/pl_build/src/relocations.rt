@@ -1,11 +1,10 @@
 // The tables of relocations.
-ghost use Rattle.std.specs.Prelude.{◌≡◌, IfOk, map, filter};
-ghost use Rattle.pl_build.specs.LayoutPlan.{is_jump_slot, is_other};
+ghost use Rattle.std.specs.Prelude.{◌≡◌, IfOk};
 ghost use Rattle.pl_build.specs.Relocations as spec;
 
-use crate::fields::{Field, Row, push_fields, push_rows};
+use crate::fields::{Field, Row, push_fields};
 use crate::indexed_plan::IndexedPlan;
-use crate::layout_plan::{data_address, is_jump_slot};
+use crate::layout_plan::{data_address, is_jump_slot, is_other};
 use crate::line::Relocation;
 use crate::packed::addend_of;
 use crate::relocation_lines::is_no_symbol;
@@ -79,37 +78,18 @@ fn rela_of(plan: &IndexedPlan<'_>, relocation: &Relocation) -> Rela
     }
 }
 
-fn jump_slot_rows(alloc: Global, plan: &IndexedPlan<'_>) -> Result<Vec<Rela>, AllocError>
-    ensures { IfOk result (λ v. v.items ≡ map (spec.rela_of plan.now)
-        (filter is_jump_slot plan.now.relocations)) }
-{
-    let relocations = plan.layout().relocations.as_slice();
-    relocations
-        .iter()
-        .filter(|r| is_jump_slot(r))
-        .map(|r| rela_of(plan, r))
-        .collect(alloc)
-}
-
-fn other_rows(alloc: Global, plan: &IndexedPlan<'_>) -> Result<Vec<Rela>, AllocError>
-    ensures { IfOk result (λ v. v.items ≡ map (spec.rela_of plan.now)
-        (filter is_other plan.now.relocations)) }
-{
-    let relocations = plan.layout().relocations.as_slice();
-    relocations
-        .iter()
-        .filter(|r| !is_jump_slot(r))
-        .map(|r| rela_of(plan, r))
-        .collect(alloc)
-}
-
 /// The bytes of `.rela.plt`: the relocations of jump slots.
 #[tactic(auto, unfolding(crate::specs::Relocations::jump_slots))]
 pub fn jump_slots(alloc: Global, plan: &IndexedPlan<'_>) -> Result<Vec<u8>, AllocError>
     ensures { IfOk result (λ v. v.items ≡ spec.jump_slots plan.now) }
 {
     let mut out = Vec::new(alloc);
-    push_rows(&mut out, jump_slot_rows(alloc, plan)?.as_slice())?;
+    let relocations = plan.layout().relocations.as_slice();
+    for relocation in relocations {
+        if is_jump_slot(relocation) {
+            rela_of(plan, relocation).push_to(&mut out)?;
+        }
+    }
     Ok(out)
 }
 
@@ -119,6 +99,11 @@ pub fn others(alloc: Global, plan: &IndexedPlan<'_>) -> Result<Vec<u8>, AllocErr
     ensures { IfOk result (λ v. v.items ≡ spec.others plan.now) }
 {
     let mut out = Vec::new(alloc);
-    push_rows(&mut out, other_rows(alloc, plan)?.as_slice())?;
+    let relocations = plan.layout().relocations.as_slice();
+    for relocation in relocations {
+        if is_other(relocation) {
+            rela_of(plan, relocation).push_to(&mut out)?;
+        }
+    }
     Ok(out)
 }

@@ -151,8 +151,9 @@ pub fn section_rows(
 ) -> Result<Vec<SectionRow>, AllocError>
     ensures { IfOk result (λ v. v.items ≡ spec.section_rows plan.now names.now places.now) }
 {
-    places
-        .iter()
-        .map(|place| row_of(plan, names, place))
-        .collect(alloc)
+    let mut rows = Vec::new(alloc);
+    for place in places {
+        rows.push(row_of(plan, names, place))?;
+    }
+    Ok(rows)
 }

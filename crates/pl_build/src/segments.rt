@@ -3,7 +3,7 @@ ghost use Rattle.std.specs.Prelude.{◌≡◌, ◌<◌, ◌+◌, ◌^◌, IfOk};
 ghost use Rattle.pl_elf.specs.Written.{segment_bytes};
 ghost use Rattle.pl_build.specs.Segments as spec;
 
-use crate::choices::chosen;
+use crate::choices::push_chosen;
 use crate::constants::{INTERP_OFFSET, STACK_ALIGN, TABLE_ALIGN};
 use crate::dynamic::is_there;
 use crate::fields::{Field, Row, push_fields};
@@ -201,8 +201,9 @@ fn with_count(
     ensures { IfOk result (λ v. v.items ≡ spec.with_count settings.now tables_end dynamic.now
         count) }
 {
-    chosen(
-        alloc,
+    let mut rows = Vec::new(alloc);
+    push_chosen(
+        &mut rows,
         &[
             (has_interp(settings), table_segment(settings, count)),
             (has_interp(settings), interp_segment(settings)),
@@ -212,7 +213,8 @@ fn with_count(
             (settings.tls.is_some(), tls_segment(settings, tables_end)),
             (settings.usual, stack_segment()),
         ],
-    )
+    )?;
+    Ok(rows)
 }
 
 /// The segments, where the tables end at an offset of the file.

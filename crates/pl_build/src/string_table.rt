@@ -121,27 +121,18 @@ pub fn add_text<'a>(
     Ok(TableMaker { table, index })
 }
 
-fn has_text(entry: &Entry, text: &[u8]) -> bool
-    ensures { result ≡ spec.has_text text.now entry.now }
-{
-    is(entry.text.as_slice(), text)
-}
-
-fn find_text<'a>(entries: &'a [Entry], text: &[u8]) -> Option<&'a Entry>
-    ensures { option_copied result ≡ find (spec.has_text text.now) entries.now }
-{
-    entries.iter().find(|entry| has_text(entry, text))
-}
-
 /// Where a text of few begins. The empty one begins at 0.
 #[tactic(auto, unfolding(crate::specs::StringTable::text_at))]
 pub fn text_at(strings: &StringTable, text: &[u8]) -> u64
     ensures { result ≡ spec.text_at strings.now text.now }
 {
-    match find_text(strings.entries.as_slice(), text) {
-        Some(entry) => entry.at,
-        None => 0,
+    let entries = strings.entries.as_slice();
+    for entry in entries {
+        if is(entry.text.as_slice(), text) {
+            return entry.at;
+        }
     }
+    0
 }
 
 /// Texts more.

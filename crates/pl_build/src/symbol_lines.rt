@@ -4,9 +4,8 @@ ghost use Rattle.pl_build.specs.SymbolLines as spec;
 
 use crate::line::{Line, SymbolLine};
 use crate::names::is;
-use crate::words::{
-    copy_of, has_version, is_doubled, is_written, name_of, number, rest, version_of, word,
-};
+use crate::symbols::named_symbol;
+use crate::words::{has_version, is_doubled, is_written, name_of, number, rest, version_of, word};
 use pl_base::{Rows, is_valid_name};
 use pl_sym::constants::{
     STB_GLOBAL, STB_GNU_UNIQUE, STB_WEAK, STT_FUNC, STT_GNU_IFUNC, STT_NOTYPE, STT_OBJECT, STT_TLS,
@@ -150,19 +149,18 @@ fn def_named(
     if !is_def(text, after_visibility(words)) {
         return Ok(Line::Wrong);
     }
+    let file = named_file(after_visibility(words));
+    let named = named_symbol(alloc, text, name_of(text), version_of(text), file)?;
     Ok(Line::Names(SymbolLine {
         defined: true,
-        written: copy_of(alloc, text)?,
-        name: copy_of(alloc, name_of(text))?,
-        version: copy_of(alloc, version_of(text))?,
         default_version: is_doubled(text),
-        file: copy_of(alloc, named_file(after_visibility(words)))?,
         bind,
         kind,
         visibility: visibility_of(words),
         placed: true,
         offset,
         size,
+        ..named
     }))
 }
 
@@ -229,19 +227,15 @@ fn ref_named(
     if !is_ref(text, words) {
         return Ok(Line::Wrong);
     }
+    let file = named_file(words);
+    let named = named_symbol(alloc, text, name_of(text), version_of(text), file)?;
     Ok(Line::Names(SymbolLine {
-        defined: false,
-        written: copy_of(alloc, text)?,
-        name: copy_of(alloc, name_of(text))?,
-        version: copy_of(alloc, version_of(text))?,
-        default_version: false,
-        file: copy_of(alloc, named_file(words))?,
         bind,
         kind,
         visibility: STV_DEFAULT,
         placed: has_place(after_file(words)),
         offset,
-        size: 0,
+        ..named
     }))
 }
 

@@ -1,8 +1,8 @@
 // The symbol table.
-ghost use Rattle.std.specs.Prelude.{◌≡◌, IfOk, map};
+ghost use Rattle.std.specs.Prelude.{◌≡◌, IfOk};
 ghost use Rattle.pl_build.specs.SymbolTable as spec;
 
-use crate::fields::{Field, Row, push_fields, push_rows};
+use crate::fields::{Field, Row, push_fields};
 use crate::indexed_plan::IndexedPlan;
 use crate::layout_plan::data_address;
 use crate::line::SymbolLine;
@@ -101,17 +101,6 @@ fn entry_of(plan: &IndexedPlan<'_>, symbol: &SymbolLine) -> SymbolEntry
     }
 }
 
-fn entries(alloc: Global, plan: &IndexedPlan<'_>) -> Result<Vec<SymbolEntry>, AllocError>
-    ensures { IfOk result (λ v. v.items ≡ map (spec.entry_of plan.now) plan.now.symbols) }
-{
-    plan.layout()
-        .symbols
-        .as_slice()
-        .iter()
-        .map(|symbol| entry_of(plan, symbol))
-        .collect(alloc)
-}
-
 /// The bytes of the symbol table: the null symbol, then all others.
 #[tactic(auto, unfolding(crate::specs::SymbolTable::symbol_table))]
 pub fn symbol_table(alloc: Global, plan: &IndexedPlan<'_>) -> Result<Vec<u8>, AllocError>
@@ -119,6 +108,9 @@ pub fn symbol_table(alloc: Global, plan: &IndexedPlan<'_>) -> Result<Vec<u8>, Al
 {
     let mut out = Vec::new(alloc);
     NULL_ENTRY.push_to(&mut out)?;
-    push_rows(&mut out, entries(alloc, plan)?.as_slice())?;
+    let symbols = plan.layout().symbols.as_slice();
+    for symbol in symbols {
+        entry_of(plan, symbol).push_to(&mut out)?;
+    }
     Ok(out)
 }

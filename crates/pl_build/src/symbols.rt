@@ -1,5 +1,6 @@
 // The order of the symbols.
-ghost use Rattle.std.specs.Prelude.{◌≡◌, ◌++◌, ◌∷◌, [], IfOk, filter};
+ghost use Rattle.std.specs.Prelude.{◌≡◌, ◌++◌, ◌∷◌, [], IfOk, OnOk, filter};
+ghost use Rattle.pl_build.specs.NamedSymbols as named;
 ghost use Rattle.pl_build.specs.Symbols as spec;
 
 use crate::line::SymbolLine;
@@ -39,47 +40,78 @@ fn is_in(settings: &Settings, number: u64, symbol: &SymbolLine) -> bool
     symbol.defined && bucket(settings, symbol) == number
 }
 
+/// A symbol with copies of its names, of which nothing else is said.
+pub fn named_symbol(
+    alloc: Global,
+    written: &[u8],
+    name: &[u8],
+    version: &[u8],
+    file: &[u8],
+) -> Result<SymbolLine, AllocError>
+    ensures { IfOk result (λ s. s ≡ named.named_symbol written.now name.now version.now file.now) }
+{
+    let written = copy_of(alloc, written)?;
+    let name = copy_of(alloc, name)?;
+    let version = copy_of(alloc, version)?;
+    let file = copy_of(alloc, file)?;
+    Ok(SymbolLine {
+        defined: false,
+        written,
+        name,
+        version,
+        default_version: false,
+        file,
+        bind: 0,
+        kind: 0,
+        visibility: 0,
+        placed: false,
+        offset: 0,
+        size: 0,
+    })
+}
+
 /// A copy of a symbol.
 pub fn copy_symbol(alloc: Global, symbol: &SymbolLine) -> Result<SymbolLine, AllocError>
     ensures { IfOk result (λ s. s ≡ symbol.now) }
 {
-    let written = copy_of(alloc, symbol.written.as_slice())?;
-    let name = copy_of(alloc, symbol.name.as_slice())?;
-    let version = copy_of(alloc, symbol.version.as_slice())?;
-    let file = copy_of(alloc, symbol.file.as_slice())?;
+    let named = named_symbol(
+        alloc,
+        symbol.written.as_slice(),
+        symbol.name.as_slice(),
+        symbol.version.as_slice(),
+        symbol.file.as_slice(),
+    )?;
     Ok(SymbolLine {
-        written,
-        name,
-        version,
-        file,
+        written: named.written,
+        name: named.name,
+        version: named.version,
+        file: named.file,
         ..*symbol
     })
 }
 
-/// A copy of a symbol behind others.
-fn copied_behind(
+/// Adds a copy of a symbol.
+fn push_copy(
     alloc: Global,
-    to: Rows<SymbolLine>,
+    to: &mut Rows<SymbolLine>,
     symbol: &SymbolLine,
-) -> Result<Rows<SymbolLine>, AllocError>
-    ensures { IfOk result (λ v. v ≡ to ++ symbol.now ∷ []) }
+) -> Result<(), AllocError>
+    ensures { OnOk result (to.new ≡ to.old ++ symbol.now ∷ []) }
 {
-    let mut to = to;
-    to.push(copy_symbol(alloc, symbol)?)?;
-    Ok(to)
+    to.push(copy_symbol(alloc, symbol)?)
 }
 
 fn keep_undefined(
     alloc: Global,
-    to: Rows<SymbolLine>,
+    to: &mut Rows<SymbolLine>,
     symbol: &SymbolLine,
-) -> Result<Rows<SymbolLine>, AllocError>
-    ensures { IfOk result (λ v. v ≡ spec.kept (spec.is_undefined symbol.now) symbol.now to) }
+) -> Result<(), AllocError>
+    ensures { OnOk result (to.new ≡ spec.kept (spec.is_undefined symbol.now) symbol.now to.old) }
 {
     if symbol.defined {
-        Ok(to)
+        Ok(())
     } else {
-        copied_behind(alloc, to, symbol)
+        push_copy(alloc, to, symbol)
     }
 }
 
@@ -88,42 +120,42 @@ fn undefined(alloc: Global, symbols: &[SymbolLine]) -> Result<Rows<SymbolLine>, 
 {
     let mut to = Rows::new(alloc);
     for symbol in symbols {
-        to = keep_undefined(alloc, to, symbol)?;
+        keep_undefined(alloc, &mut to, symbol)?;
     }
     Ok(to)
 }
 
 fn keep_in(
     alloc: Global,
-    to: Rows<SymbolLine>,
+    to: &mut Rows<SymbolLine>,
     settings: &Settings,
     number: u64,
     symbol: &SymbolLine,
-) -> Result<Rows<SymbolLine>, AllocError>
-    ensures { IfOk result (λ v. v ≡ spec.kept (spec.is_in settings.now number symbol.now) symbol.now
-        to) }
+) -> Result<(), AllocError>
+    ensures { OnOk result (to.new ≡ spec.kept (spec.is_in settings.now number symbol.now) symbol.now
+        to.old) }
 {
     if is_in(settings, number, symbol) {
-        copied_behind(alloc, to, symbol)
+        push_copy(alloc, to, symbol)
     } else {
-        Ok(to)
+        Ok(())
     }
 }
 
-fn with_bucket(
+fn add_bucket(
     alloc: Global,
-    to: Rows<SymbolLine>,
+    to: &mut Rows<SymbolLine>,
     settings: &Settings,
     number: u64,
     symbols: &[SymbolLine],
-) -> Result<Rows<SymbolLine>, AllocError>
-    ensures { IfOk result (λ v. v ≡ to ++ filter (spec.is_in settings.now number) symbols.now) }
+) -> Result<(), AllocError>
+    ensures { OnOk result (to.new ≡ to.old
+        ++ filter (spec.is_in settings.now number) symbols.now) }
 {
-    let mut to = to;
     for symbol in symbols {
-        to = keep_in(alloc, to, settings, number, symbol)?;
+        keep_in(alloc, to, settings, number, symbol)?;
     }
-    Ok(to)
+    Ok(())
 }
 
 /// The symbols in the order of the symbol table.
@@ -138,7 +170,7 @@ pub fn ordered(
     let mut to = undefined(alloc, symbols)?;
     let buckets = settings.buckets;
     for number in 0..buckets {
-        to = with_bucket(alloc, to, settings, number, symbols)?;
+        add_bucket(alloc, &mut to, settings, number, symbols)?;
     }
     Ok(to)
 }

@@ -1,5 +1,5 @@
 // The tables of symbol versions.
-ghost use Rattle.std.specs.Prelude.{◌≡◌, ◌++◌, ◌+◌, ◌<◌, ◌≤◌, IfOk, OnOk, map, length, position};
+ghost use Rattle.std.specs.Prelude.{◌≡◌, ◌++◌, ◌+◌, ◌<◌, ◌≤◌, IfOk, OnOk, length, position};
 ghost use Rattle.std.specs.List.{flat_map, list_any, range_with_len};
 ghost use Rattle.pl_build.specs.Needed.{is_of, is_need_of};
 ghost use Rattle.pl_build.specs.Versions as spec;
@@ -65,26 +65,17 @@ fn version_word(plan: &IndexedPlan<'_>, symbol: &SymbolLine) -> u64
     }
 }
 
-fn word_fields(alloc: Global, plan: &IndexedPlan<'_>) -> Result<Vec<Field>, AllocError>
-    ensures { IfOk result (λ v. v.items ≡ map (λ s. Field.Half (spec.version_word plan.now s))
-        plan.now.symbols) }
-{
-    plan.layout()
-        .symbols
-        .as_slice()
-        .iter()
-        .map(|symbol| Field::Half(version_word(plan, symbol)))
-        .collect(alloc)
-}
-
 /// The bytes of `.gnu.version`: the version word of each symbol.
-#[tactic(auto, unfolding(crate::specs::Versions::version_words))]
+#[tactic(auto, unfolding(crate::specs::Versions::version_words, crate::specs::Fields::fields))]
 pub fn version_words(alloc: Global, plan: &IndexedPlan<'_>) -> Result<Vec<u8>, AllocError>
     ensures { IfOk result (λ v. v.items ≡ spec.version_words plan.now) }
 {
     let mut out = Vec::new(alloc);
     push_fields(&mut out, &[Field::Half(u64::from(VER_NDX_GLOBAL))])?;
-    push_fields(&mut out, word_fields(alloc, plan)?.as_slice())?;
+    let symbols = plan.layout().symbols.as_slice();
+    for symbol in symbols {
+        push_fields(&mut out, &[Field::Half(version_word(plan, symbol))])?;
+    }
     Ok(out)
 }
 

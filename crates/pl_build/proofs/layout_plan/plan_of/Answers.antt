@@ -1,7 +1,8 @@
+use Rattle.std.proofs.Common.{ap, ◌∙◌}
 use Rattle.pl_build.specs.LayoutPlan.{plan_of}
+use Rattle.pl_build.specs.Derived.{assembled, derived_of}
 use Rattle.pl_build.proofs.layout_plan.plan_of.Goals as goal
 
 pub returns : goal.returns
-unfolding plan_of
-returns c =
-    rw (c.in_ok-words.ensures, c.in_ok-roles.ensures, c.as_slice-7.ensures, c.in_ok-strings.ensures, c.as_slice-4.ensures, c.as_slice-5.ensures, c.as_slice-6.ensures, c.in_ok-files.ensures, c.as_slice-3.ensures, c.in_ok-needs.ensures, c.as_slice-2.ensures, c.in_ok-symbols.ensures, c.as_slice.ensures)
+unfolding plan_of derived_of
+returns c = c.assembled.ensures ∙ ap (assembled c.args.recipe) c.in_ok-derived.ensures

@@ -16,7 +16,7 @@ loop-line-preserved c =
     let given = c.into_iter-line-iterator.ensures.into_iter_gives in
     let turn = YieldsList-turn (YieldsList-from_vec {s = c.into_iter-line-iterator.result} c.args.lines.items given.0 (given.1 ∙ c.args.lines.ok.0)) c.loop-line.yielded c.loop-line.line-iterator c.loop-line.yielded_by c.next.result c.next.new.self c.in-Some.line c.in-Some.is c.next.ensures.steps in
     rw (length_push c.loop-line.yielded c.in-Some.line)
-    (fold_taken pushed empty c.loop-line.recipe _ c.args.lines.items (length c.loop-line.yielded) c.in-Some.line turn.0 turn.1 c.in_ok-recipe.ensures c.loop-line.invariant)
+    (fold_taken pushed empty c.loop-line.recipe _ c.args.lines.items (length c.loop-line.yielded) c.in-Some.line turn.0 turn.1 c.in_ok-add.ensures c.loop-line.invariant)
 
 pub returns : goal.returns
 returns c =

@@ -8,7 +8,7 @@ unfolding ordered
 loop-number-init c = rw c.in_ok-to.ensures
 
 pub loop-number-preserved : goal.loop-number-preserved
-loop-number-preserved c = numbers_more (λ b. filter (is_in c.args.settings.now b) c.args.symbols.now) _ _ _ _ _ c.loop-number-test.true c.in_ok-to-2.ensures c.loop-number.invariant
+loop-number-preserved c = numbers_more (λ b. filter (is_in c.args.settings.now b) c.args.symbols.now) _ _ _ _ _ c.loop-number-test.true c.in_ok-add_bucket.ensures c.loop-number.invariant
 
 pub returns : goal.returns
 returns c = numbers_done (λ b. filter (is_in c.args.settings.now b) c.args.symbols.now) _ _ _ _ c.loop-number-test.false c.loop-number.invariant

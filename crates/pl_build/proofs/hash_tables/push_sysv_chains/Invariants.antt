@@ -1,0 +1,10 @@
+use Rattle.std.proofs.Common.{◌≡◌, ◌++◌, drop, map, length}
+use Rattle.std.specs.List.{range_with_len}
+use Rattle.pl_build.specs.declared.fields.Field.TheVariants.{Word}
+use Rattle.pl_build.specs.Fields.{fields}
+use Rattle.pl_build.specs.WordTables.{words}
+use Rattle.pl_build.specs.HashTables.{next_after}
+use Rattle.pl_build.proofs.hash_tables.push_sysv_chains.Given as goal
+
+abbrev pub invariant-loop-index : goal.invariant-loop-index
+invariant-loop-index l = l.out.items ++ fields (map (λ k. Word ((next_after l.buckets) k)) (drop l.index (range_with_len 0 (length l.buckets)))) ≡ l.initial.out.items ++ words (next_after l.buckets) (length l.buckets)
