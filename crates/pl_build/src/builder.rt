@@ -1,7 +1,8 @@
 // A recipe's file.
-ghost use Rattle.std.specs.Prelude.{◌≡◌, ◌<◌, ◌^◌, IfOk, IfSome, length};
+ghost use Rattle.std.specs.Prelude.{◌≡◌, ◌<◌, ◌^◌, ◌∷◌, ◌++◌, [], IfOk, IfSome, OnOk, length};
 ghost use Rattle.pl_build.specs.Checks.{first_fault};
 ghost use Rattle.pl_build.specs.Build as spec;
+ghost use Rattle.pl_build.specs.Grammar as grammar;
 
 use crate::checks::first_fault;
 use crate::fault::RecipeFault;
@@ -14,13 +15,20 @@ use bstr::ByteSlice;
 use pl_base::Rows;
 use std::alloc::{AllocError, Global};
 
+fn push_line(alloc: Global, lines: &mut Vec<Line>, text: &[u8]) -> Result<(), AllocError>
+    ensures { OnOk result (lines.new.items ≡ lines.old.items ++ grammar.line text.now ∷ []) }
+{
+    lines.push(line(alloc, text)?)?;
+    Ok(())
+}
+
 #[tactic(auto, unfolding(crate::specs::Build::lines, crate::specs::Words::pieces))]
 fn lines(alloc: Global, recipe: &[u8]) -> Result<Vec<Line>, AllocError>
     ensures { IfOk result (λ v. v.items ≡ spec.lines recipe.now) }
 {
     let mut lines = Vec::new(alloc);
     for text in recipe.split_str(b"\n") {
-        lines.push(line(alloc, text)?)?;
+        push_line(alloc, &mut lines, text)?;
     }
     Ok(lines)
 }

@@ -145,7 +145,8 @@ fn push_version_tags(
     plan: &IndexedPlan<'_>,
     places: &[PlacedSection],
 ) -> Result<(), AllocError>
-    ensures { OnOk result (tags.new.items ≡ tags.old.items ++ spec.version_tags plan.now places.now) }
+    ensures { OnOk result (tags.new.items ≡ tags.old.items
+        ++ spec.version_tags plan.now places.now) }
 {
     let words = place_of(places, b".gnu.version");
     let defined = place_of(places, b".gnu.version_d");
@@ -221,7 +222,6 @@ fn push_placed_tags(
 }
 
 /// The bytes of the dynamic table, for tables that stand at places.
-#[tactic(auto, using(crate::proofs::TagLaws::table_written), unfolding(crate::specs::Dynamic::dynamic_table, crate::specs::PlacedTags::placed_tags))]
 pub fn dynamic_table(
     alloc: Global,
     plan: &IndexedPlan<'_>,

@@ -144,7 +144,8 @@ fn push_first_roles(roles: &mut Vec<Role>, settings: &Settings) -> Result<(), Al
 
 #[tactic(auto, unfolding(crate::specs::LayoutPlan::next_roles))]
 fn push_next_roles(roles: &mut Vec<Role>, recipe: &Recipe, needs: &[Need]) -> Result<(), AllocError>
-    ensures { OnOk result (roles.new.items ≡ roles.old.items ++ spec.next_roles recipe.now needs.now) }
+    ensures { OnOk result (roles.new.items ≡ roles.old.items
+        ++ spec.next_roles recipe.now needs.now) }
 {
     let relocations = recipe.relocations.as_slice();
     push_chosen(

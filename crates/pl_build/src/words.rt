@@ -1,5 +1,5 @@
 // The words of a line, and the numbers and written names among them.
-ghost use Rattle.std.specs.Prelude.{◌≡◌, ◌<◌, ◌+◌, IfOk, drop, take};
+ghost use Rattle.std.specs.Prelude.{◌≡◌, ◌<◌, ◌+◌, ◌∷◌, ◌++◌, [], IfOk, OnOk, drop, take};
 ghost use Rattle.std.specs.List.{list_all};
 ghost use Rattle.pl_build.specs.Words as spec;
 
@@ -15,6 +15,13 @@ pub fn copy_of(alloc: Global, bytes: &[u8]) -> Result<Rows<u8>, AllocError>
     Ok(Rows::from_vec(copy))
 }
 
+fn push_piece(alloc: Global, pieces: &mut Vec<Rows<u8>>, piece: &[u8]) -> Result<(), AllocError>
+    ensures { OnOk result (pieces.new.items ≡ pieces.old.items ++ piece.now ∷ []) }
+{
+    pieces.push(copy_of(alloc, piece)?)?;
+    Ok(())
+}
+
 /// The pieces of a text between a separator's places.
 #[tactic(auto, unfolding(crate::specs::Words::pieces))]
 pub fn pieces(alloc: Global, text: &[u8], separator: &[u8]) -> Result<Vec<Rows<u8>>, AllocError>
@@ -22,7 +29,7 @@ pub fn pieces(alloc: Global, text: &[u8], separator: &[u8]) -> Result<Vec<Rows<u
 {
     let mut pieces = Vec::new(alloc);
     for piece in text.split_str(separator) {
-        pieces.push(copy_of(alloc, piece)?)?;
+        push_piece(alloc, &mut pieces, piece)?;
     }
     Ok(pieces)
 }

@@ -1,4 +1,4 @@
-use Rattle.std.proofs.Common.{◌≡◌, ◌++◌, drop, map, length}
+use Rattle.std.proofs.Common.{◌≡◌, ◌++◌, drop, map}
 use Rattle.std.specs.List.{range_with_len}
 use Rattle.pl_build.specs.declared.fields.Field.TheVariants.{Word}
 use Rattle.pl_build.specs.Fields.{fields}
