@@ -1,7 +1,7 @@
 -- The place of a key among entries in the order of their keys.
 use Rattle.std.proofs.Common.{◌≡◌, ℕ, ◌+◌, ◌<◌, ◌≤◌, List, length, get_or, arith}
 use Rattle.std.specs.List.Sorted.{IsNonDecreasingBy}
-use Rattle.std.proofs.lemmas.Bool.{le-ltb, lt-ltb}
+use Rattle.std.proofs.lemmas.Bool.{le-ltb, lt-ltb, ltb-true}
 use Rattle.std.proofs.lemmas.List.{get_or_default}
 use Rattle.pl_scope.specs.Sorted.{IsBehind, IsFirst}
 use Rattle.pl_scope.specs.declared.entries.Entry.{Entry}
@@ -41,3 +41,12 @@ behind_read es key place last own e rising bound is read lower = behind_last es 
 
 pub first_read : (es : List Entry) (key place own : ℕ) (e : Entry) → IsNonDecreasingBy (λ e. e.key) es → place < length es → own ≡ (get_or es place e).key → key ≤ own → IsBehind es key place → IsFirst es key place
 first_read es key place own e rising lt read le behind = first_here es key place e rising lt (omega (arith, read, le)) behind
+
+-- where all entries before a place have lower keys than a number, so they have for one that is not lower
+pub behind_up : (es : List Entry) (low high place : ℕ) → low ≤ high → IsFirst es low place → IsBehind es high place
+behind_up es low high place le first = record {
+  bound = first.bound;
+  lower = λ k d from to.
+      let less = ltb-true (get_or es k d).key low (first.point.0 k d from to) in
+      lt-ltb (get_or es k d).key high (omega (arith, le, less));
+}

@@ -134,7 +134,7 @@ pub fn under<'i>(index: &'i [Entry], starts: &Starts, hash: u32) -> &'i [Entry]
     ensures { result.now ≡ spec.entries_of index.now hash }
 {
     let own = mixed(hash);
-    let start = starts.place_of(own);
+    let start = starts.place_of(own) as usize;
     let number = u64::from(own);
     let first = first_from(index, start, number);
     let end = end_from(index, first, number + 1);

@@ -1,9 +1,10 @@
 // Look-ups whose answers are kept.
-ghost use Rattle.std.specs.Prelude.{◌≡◌, map, IfOk, IfSome};
+ghost use Rattle.std.specs.Prelude.{◌≡◌, ◌<◌, length, map, IfOk, IfSome};
 ghost use Rattle.pl_scope.specs.Scope.{objects, IsReference, IsSymbol};
 ghost use Rattle.pl_scope.specs.Finds.{finds};
 ghost use Rattle.pl_scope.specs.Kept as spec;
 
+use crate::ahead::Ahead;
 use crate::answers::Answer;
 use crate::lookup::{Way, find_by};
 use crate::scope_index::{ScopeIndex, index_of};
@@ -68,6 +69,24 @@ fn way_by<'i, 'a>(index: &'i KeptIndex<'a>) -> Way<'i, 'a>
     }
 }
 
+/// Finds where the searches for the names of a member's symbols begin in one list.
+fn look_ahead_in(
+    alloc: Global,
+    index: &mut KeptIndex<'_>,
+    scope: &Scope<'_>,
+    member: u32,
+) -> Result<(), AllocError>
+    requires within { member < length scope.now }
+    requires index { spec.IsKeptIndex (objects scope.now) index.old }
+    ensures { spec.IsKeptIndex (objects scope.now) index.new }
+{
+    match index {
+        KeptIndex::Short(short) => short.ahead = Ahead::of(alloc, scope, &short.definers, member)?,
+        KeptIndex::Lists(_) => (),
+    }
+    Ok(())
+}
+
 fn unasked_row(alloc: Global, object: &Object) -> Result<Vec<Answer>, AllocError>
     ensures { IfOk result (λ row. row.items ≡ spec.unasked_row object.now) }
 {
@@ -105,6 +124,15 @@ impl<'s, 'a> Kept<'s, 'a> {
         let index = kept_index(alloc, scope)?;
         let rows = unasked_rows(alloc, scope)?;
         Ok(Kept { scope, index, rows })
+    }
+
+    /// Finds where the look-ups of a member's references begin, for all its undefined symbols at once: each reads memory at places far apart, and the processor waits for many of them together. It decides the time of `find` alone, and holds until it is called for another member. It fails only for want of memory.
+    pub fn look_ahead(&mut self, alloc: Global, member: u32) -> Result<(), NoMemory>
+        requires { member < length self.old }
+        ensures { self.new ≡ self.old }
+    {
+        look_ahead_in(alloc, &mut self.index, self.scope, member)?;
+        Ok(())
     }
 
     /// The scope.

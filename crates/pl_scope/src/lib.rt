@@ -1,6 +1,7 @@
 //! Scopes: the walk over needed libraries, and the look-up of symbols (System V gABI, chapter 5, "Shared Object Dependencies"; GNU symbol versioning).
 #![tactic(auto)]
 
+mod ahead;
 mod answers;
 mod block;
 pub mod constants;

@@ -379,7 +379,7 @@ fn first_short(
     ensures { result ≡ spec.first_match scope.now wanted.now start }
 {
     let count = scope.count();
-    let entries = under_hash(definers, mixed(wanted.gnu), count);
+    let entries = under_hash(definers, wanted.start, mixed(wanted.gnu), count);
     let hits = UnderName { definers, entries };
     let mut best = None;
     for entry in entries {
@@ -518,6 +518,14 @@ fn version_wanted<'a>(
     }
 }
 
+/// Where the search for the name of a reference's symbol begins in one list of the scope, if that was found ahead. It decides the time alone.
+fn start_of(reference: Reference, way: Way<'_, '_>) -> Option<u32> {
+    match way {
+        Way::Short(definers) => definers.ahead.place_of(reference.member, reference.symbol),
+        _ => None,
+    }
+}
+
 #[tactic(auto, unfolding(crate::specs::Finds::found_for))]
 fn found_for<'a>(
     scope: &Scope<'_>,
@@ -532,7 +540,7 @@ fn found_for<'a>(
     ensures { result ≡ spec.found_for (objects scope.now) reference object.now symbol.now }
 {
     let version = version_wanted(object, reference.member, symbol, way);
-    let wanted = wanted_by(symbol, reference.kind, version);
+    let wanted = wanted_by(symbol, reference.kind, version, start_of(reference, way));
     in_order(scope, reference, object, &wanted, way)
 }
 

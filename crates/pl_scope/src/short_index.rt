@@ -6,6 +6,7 @@ ghost use Rattle.pl_scope.specs.Scope.{objects, IsFit};
 ghost use Rattle.pl_scope.specs.ShortIndex as spec;
 
 use crate::Scope;
+use crate::ahead::Ahead;
 use crate::definers::pair;
 use crate::entries::{Entry, sort_entries};
 use crate::sorted::{Sorted, range, sorted_of};
@@ -28,6 +29,9 @@ pub struct ShortIndex<'a> {
     pub definers: Sorted,
 
     pub versions: Vec<VersionIndex<'a>>,
+
+    /// Where the searches for the names of a member's symbols begin in the list. It decides the time alone.
+    pub ahead: Ahead,
 }
 
 /// One list of the definers of all members, and its entries under the hash of a name.
@@ -168,18 +172,31 @@ pub fn short_index_of<'a>(
     let versions = all_versions(alloc, scope)?;
     match few_definers(alloc, scope)? {
         None => Ok(None),
-        Some(definers) => Ok(Some(ShortIndex { definers, versions })),
+        Some(definers) => Ok(Some(ShortIndex {
+            definers,
+            versions,
+            ahead: Ahead::none(alloc),
+        })),
     }
 }
 
-/// The definers of the first so many members under a mixed hash.
-pub fn under_hash<'i>(index: &'i ShortIndex<'_>, hash: u32, count: u32) -> &'i [Entry]
+/// The definers of the first so many members under a mixed hash. The search begins at a place that was found ahead, else by the table.
+pub fn under_hash<'i>(
+    index: &'i ShortIndex<'_>,
+    start: Option<u32>,
+    hash: u32,
+    count: u32,
+) -> &'i [Entry]
     requires { spec.IsRising index.now }
     ensures { AreBetween index.now.definers.entries.items (definers.pair hash 0)
         (spec.end_of_hash hash count) result.now }
 {
     let first = u128::from(pair(hash, 0));
-    range(&index.definers, first, first + u128::from(count))
+    let start = match start {
+        None => index.definers.starts.place_of(hash),
+        Some(place) => place,
+    };
+    range(&index.definers, start, first, first + u128::from(count))
 }
 
 /// The definers of a member under a mixed hash.
@@ -188,7 +205,8 @@ pub fn of_member<'i>(index: &'i ShortIndex<'_>, hash: u32, member: u32) -> &'i [
     ensures { AreUnder index.now.definers.entries.items (definers.pair hash member) result.now }
 {
     let key = u128::from(pair(hash, member));
-    range(&index.definers, key, key + 1)
+    let start = index.definers.starts.place_of(hash);
+    range(&index.definers, start, key, key + 1)
 }
 
 /// The member of an entry.

@@ -12,6 +12,9 @@ use std::alloc::{AllocError, Global};
 /// So many steps are gone from where a search begins.
 const STEPS: usize = 12;
 
+/// So many entries are read ahead of a search.
+const AHEAD: usize = 8;
+
 /// Entries in the order of their keys, with the places where searches begin.
 #[derive(Drop)]
 pub struct Sorted {
@@ -36,13 +39,6 @@ pub fn sorted_of(alloc: Global, entries: Vec<Entry>) -> Result<Sorted, AllocErro
 {
     let starts = starts_of(alloc, &entries)?;
     Ok(Sorted { entries, starts })
-}
-
-/// Where a search for a key begins.
-fn start_of(sorted: &Sorted, key: u128) -> usize {
-    sorted
-        .starts
-        .place_of((key / 0x1_0000_0000 % 0x1_0000_0000) as u32)
 }
 
 /// Whether the entries before a place, which rise, have lower keys.
@@ -78,39 +74,49 @@ fn near(entries: &[Entry], start: usize, key: u128) -> Option<usize>
     None
 }
 
-/// The place of the first entry whose key is not lower, where it is near the place where the search begins.
-fn near_start(sorted: &Sorted, key: u128) -> Option<usize>
-    requires { IsNonDecreasingBy (λ e. e.key) sorted.now.entries.items }
-    ensures { IfSome result (spec.IsFirst sorted.now.entries.items key) }
+/// The place of the first entry whose key is not lower, from a place on. Where it is not one of the next few, the list is halved.
+fn end_from(entries: &[Entry], start: usize, key: u128) -> usize
+    requires rising { IsNonDecreasingBy (λ e. e.key) entries.now }
+    requires behind { spec.IsBehind entries.now key start }
+    ensures { spec.IsFirst entries.now key result }
 {
-    let entries = sorted.entries.as_slice();
-    let start = start_of(sorted, key);
-    if is_behind(entries, start, key) {
-        near(entries, start, key)
-    } else {
-        None
-    }
-}
-
-/// The place of the first entry whose key is not lower. The time grows as the logarithm of their number; mostly it takes a few steps.
-fn first_of(sorted: &Sorted, key: u128) -> usize
-    requires { IsNonDecreasingBy (λ e. e.key) sorted.now.entries.items }
-    ensures { spec.IsFirst sorted.now.entries.items key result }
-{
-    match near_start(sorted, key) {
-        None => first_at(sorted.entries.as_slice(), key),
+    match near(entries, start, key) {
+        None => first_at(entries, key),
         Some(place) => place,
     }
 }
 
-/// The entries under keys from one on, and before another.
-pub fn range(sorted: &Sorted, first: u128, end: u128) -> &[Entry]
+/// The place of the first entry whose key is not lower, looked for from any place on. Where entries before the place have keys that are not lower, the list is halved.
+fn first_from(entries: &[Entry], start: usize, key: u128) -> usize
+    requires { IsNonDecreasingBy (λ e. e.key) entries.now }
+    ensures { spec.IsFirst entries.now key result }
+{
+    if is_behind(entries, start, key) {
+        end_from(entries, start, key)
+    } else {
+        first_at(entries, key)
+    }
+}
+
+/// The entries under keys from one on, and before another, looked for from a place on. Any place gives the same; a near one takes a few steps, and the others as many as the logarithm of the number of entries.
+pub fn range(sorted: &Sorted, start: u32, first: u128, end: u128) -> &[Entry]
     requires rising { IsNonDecreasingBy (λ e. e.key) sorted.now.entries.items }
     requires range { first ≤ end }
     ensures { entries.AreBetween sorted.now.entries.items first end result.now }
 {
-    let from = first_of(sorted, first);
-    let to = first_of(sorted, end);
     let entries = sorted.entries.as_slice();
+    let from = first_from(entries, start as usize, first);
+    let to = end_from(entries, from, end);
     &entries[from..to]
+}
+
+/// The place of the first entry whose key is not lower, where it is one of the next few from a place on, else that behind them. It is a sum of comparisons, with no branch on what is read, so that the processor need not wait for one search before the next. It decides the time alone.
+pub fn place_ahead(sorted: &Sorted, start: u32, key: u64) -> u32 {
+    let entries = sorted.entries.as_slice();
+    let end = entries.len().min((start as usize).saturating_add(AHEAD));
+    let mut place = start;
+    for at in start as usize..end {
+        place = place.wrapping_add(u32::from(entries[at].key < key));
+    }
+    place
 }

@@ -36,10 +36,10 @@ impl Starts {
     }
 
     /// Where a search begins, by the upper 32 bits of its key: at the beginning where no entry is in its range or a later one.
-    pub fn place_of(&self, upper: u32) -> usize {
+    pub fn place_of(&self, upper: u32) -> u32 {
         match self.places.as_slice().get(self.range_of(upper)) {
             None => 0,
-            Some(place) => *place as usize,
+            Some(place) => *place,
         }
     }
 }

@@ -19,6 +19,9 @@ pub struct Wanted<'a> {
 
     /// The name's hash in a GNU table.
     pub gnu: u32,
+
+    /// Where the search for the name begins in one list of a scope's definers, if that was found ahead. It decides the time alone.
+    pub start: Option<u32>,
 }
 
 #[tactic(auto, unfolding(crate::specs::Finds::class_of))]
@@ -32,8 +35,13 @@ fn class_of(kind: u32) -> Class
     }
 }
 
-/// What a symbol asks for a kind of relocation, where the version that it asks for is given.
-pub fn wanted_by<'a>(symbol: &'a Symbol, kind: u32, version: Option<&'a [u8]>) -> Wanted<'a>
+/// What a symbol asks for a kind of relocation, where the version that it asks for is given, and where the search begins, if that was found ahead.
+pub fn wanted_by<'a>(
+    symbol: &'a Symbol,
+    kind: u32,
+    version: Option<&'a [u8]>,
+    start: Option<u32>,
+) -> Wanted<'a>
     ensures name { result.name.now ≡ symbol.now.name }
     ensures class { result.class ≡ finds.class_of kind }
     ensures version { result.version ≡ version.entry }
@@ -45,6 +53,7 @@ pub fn wanted_by<'a>(symbol: &'a Symbol, kind: u32, version: Option<&'a [u8]>) -
         class: class_of(kind),
         version,
         gnu: gnu_hash(name),
+        start,
     }
 }
 
