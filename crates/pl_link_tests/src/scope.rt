@@ -1,9 +1,9 @@
 // The walk over needed names, and the definers that references find. The objects are those of recipes.
-ghost use Rattle.std.specs.Prelude.{IfOk};
+ghost use Rattle.std.specs.Prelude.{◌<◌, length, IfOk};
 ghost use Rattle.std.specs.Bool.{OnTrue};
 ghost use Rattle.std.specs.List.{All};
 ghost use Rattle.indexmap.specs.IndexMap.{values};
-ghost use Rattle.pl_scope.specs.Scope.{objects, IsAccepted, IsSymbol};
+ghost use Rattle.pl_scope.specs.Scope.{objects, IsAccepted, IsReference, IsSymbol};
 
 use crate::samples::{by_name, object_of};
 use indexmap::IndexMap;
@@ -90,16 +90,33 @@ pub fn is_symbol(scope: &Scope<'_>, reference: Reference) -> bool
     (reference.symbol as usize) < scope.object(reference.member).symbols.len()
 }
 
-// What a reference finds. A search through lists and kept answers, the first and the second time, find the same.
+// Whether answers that are kept, the first and the second time, are what a reference finds, after the searches of a member's references were looked ahead.
+fn keeps(
+    alloc: Global,
+    scope: &Scope<'_>,
+    reference: Reference,
+    found: Option<Found>,
+    member: u32,
+) -> Result<bool, Fail>
+    requires reference { IsReference scope.now reference }
+    requires member { member < length scope.now }
+{
+    let mut kept = Kept::new(alloc, scope)?;
+    kept.look_ahead(alloc, member)?;
+    let first = kept.find(reference);
+    let second = kept.find(reference);
+    Ok(first == found && second == found)
+}
+
+// What a reference finds. A search through lists and kept answers, with searches that were looked ahead for its own member and for the first, find the same.
 fn search(alloc: Global, scope: &Scope<'_>, reference: Reference) -> Result<Option<Found>, Fail> {
     if !is_symbol(scope, reference) {
         return Err("no such symbol".into());
     }
     let found = find(scope, reference);
-    let mut kept = Kept::new(alloc, scope)?;
-    let first = kept.find(reference);
-    let second = kept.find(reference);
-    if find_in_lists(scope, reference) != found || first != found || second != found {
+    let own = keeps(alloc, scope, reference, found, reference.member)?;
+    let other = keeps(alloc, scope, reference, found, 0)?;
+    if find_in_lists(scope, reference) != found || !own || !other {
         return Err("the same answer".into());
     }
     Ok(found)

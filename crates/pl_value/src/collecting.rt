@@ -104,6 +104,7 @@ pub fn meanings(
     let mut meanings = Rows::from_vec(Vec::with_capacity(alloc, relocation_count(scope))?);
     let mut kept = Kept::new(alloc, scope)?;
     for member in 0..scope.count() {
+        kept.look_ahead(alloc, member)?;
         let object = scope.object(member);
         let relocs = object.relocations.as_slice();
         add_each(&mut kept, places, tls, member, relocs, &mut meanings)?;

@@ -14,7 +14,8 @@ use Rattle.pl_value.proofs.collecting.meanings.Goals as goal
 pub add_each-requires-clause-references : goal.add_each-requires-clause-references
 add_each-requires-clause-references c =
     let o = c.object-object.result.now in
-    rw (c.as_slice-relocs.ensures, c.loop-member.invariant.same) (all_symbols (objects c.args.scope.now) c.loop-member.member o c.object-object.ensures.fit c.object-object.ensures.object)
+    let same = c.in_ok-look_ahead.ensures ∙ c.loop-member.invariant.same in
+    rw (c.as_slice-relocs.ensures, same) (all_symbols (objects c.args.scope.now) c.loop-member.member o c.object-object.ensures.fit c.object-object.ensures.object)
 
 pub loop-member-init : goal.loop-member-init
 loop-member-init c = record {
@@ -24,17 +25,19 @@ loop-member-init c = record {
 
 pub loop-member-preserved : goal.loop-member-preserved
 loop-member-preserved c =
-    let ok = rw (c.as_slice-relocs.ensures, c.loop-member.invariant.same) at c.in_ok-add_each.ensures.ok in
+    let same = c.in_ok-look_ahead.ensures ∙ c.loop-member.invariant.same in
+    let ok = rw (c.as_slice-relocs.ensures, same) at c.in_ok-add_each.ensures.ok in
     record {
       so_far = member_more (meaning (objects c.args.scope.now) c.args.places.now c.args.tls.now) (objects c.args.scope.now) c.loop-member.member c.object-object.result.now c.loop-member.meanings c.add_each.new.meanings _ c.object-object.ensures.object ok c.loop-member.invariant.so_far;
-      same = c.in_ok-add_each.ensures.same ∙ c.loop-member.invariant.same;
+      same = c.in_ok-add_each.ensures.same ∙ same;
     }
 
 pub returns-in_err-add_each : goal.returns-in_err-add_each
 unfolding meanings
 returns-in_err-add_each c =
     let p = err_from_is_err_and c.from_residual-in_err-add_each.result c.from_residual-in_err-add_each.ensures.1 in
-    let stop = rw (c.as_slice-relocs.ensures, c.loop-member.invariant.same) at c.in_err-add_each.ensures.err in
+    let same = c.in_ok-look_ahead.ensures ∙ c.loop-member.invariant.same in
+    let stop = rw (c.as_slice-relocs.ensures, same) at c.in_err-add_each.ensures.err in
     rw (p.1, p.2) (member_stops (meaning (objects c.args.scope.now) c.args.places.now c.args.tls.now) (objects c.args.scope.now) c.loop-member.member c.object-object.result.now c.loop-member.meanings _ _ c.object-object.ensures.object stop c.loop-member.invariant.so_far)
 
 pub returns : goal.returns
