@@ -43,7 +43,7 @@ fn search_for(definers: &Sorted, symbol: &Symbol) -> Search {
     }
 }
 
-/// The searches for the names of symbols. The loop reads the table alone, so that the processor waits for many of its places at once.
+/// The searches for the names of symbols. Of the index the loop reads the table alone, so that the processor waits for many of its places at once.
 fn searches_for(
     alloc: Global,
     definers: &Sorted,
@@ -83,7 +83,7 @@ fn name_size(scope: &Scope<'_>, definers: &Sorted, search: Search) -> Option<usi
     Some(symbol.name.as_slice().len())
 }
 
-/// Gives up the places where names of another size stand. The loop reads the definers' symbols alone, which the look-ups then find in the processor's caches.
+/// Gives up the places where names of another size stand. The loop reads the symbols of definers, which the look-ups then find in the processor's caches.
 fn check_names(scope: &Scope<'_>, definers: &Sorted, symbols: &[Symbol], searches: &mut [Search]) {
     for (search, symbol) in searches.iter_mut().zip(symbols) {
         let same = name_size(scope, definers, *search) == Some(symbol.name.as_slice().len());
