@@ -9,7 +9,7 @@ use Rattle.pl_scope.specs.declared.entries.Entry.{Entry as Placed}
 use Rattle.pl_scope.specs.declared.index.Entry.{Entry}
 use Rattle.pl_scope.proofs.MemberLaws.{length_objects}
 use Rattle.pl_scope.proofs.FolderLaws.{among_more, among_done, among_whole, within_by}
-use Rattle.pl_scope.proofs.lookup.first_among.Goals as goal
+use Rattle.pl_scope.proofs.lookup.first_listed.Goals as goal
 
 pub best_at-best-requires-clause-within : goal.best_at-best-requires-clause-within
 best_at-best-requires-clause-within c = λ m is.
