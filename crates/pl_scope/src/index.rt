@@ -41,12 +41,15 @@ fn entry_of(object: &Object, member: u32, number: u32, symbol: &Symbol) -> Optio
     }
 }
 
-/// Adds the definers of a member.
+/// Adds the definers of a member. It fails only for want of memory, which comes before 2^32 symbols.
 pub fn add_entries(entries: &mut Vec<Entry>, object: &Object, member: u32) -> Result<(), AllocError>
     ensures { OnOk result (entries.new.items ≡ entries.old.items
         ++ spec.entries_in object.now member) }
 {
     let symbols = object.symbols.as_slice();
+    if symbols.len() >= 4_294_967_296 {
+        return Err(AllocError);
+    }
     for number in 0..symbols.len() {
         if let Some(entry) = entry_of(object, member, number as u32, &symbols[number]) {
             entries.push(entry)?;

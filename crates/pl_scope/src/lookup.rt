@@ -499,7 +499,13 @@ fn first_alone(
     requires alone { names.entries_of among.now.index.now wanted.now.gnu ≡ entry.now ∷ [] }
     ensures { result ≡ spec.first_match scope.now wanted.now start }
 {
-    best_at_alone(scope, wanted, start, position_of(among, entry), entry.symbol)
+    best_at_alone(
+        scope,
+        wanted,
+        start,
+        position_of(among, entry),
+        entry.symbol,
+    )
 }
 
 /// The matching definer of the first member from one on that has one, where only the members are asked that an index of the folder has under the name's hash; where that has more entries than the scope has members, the members one after the other.
