@@ -28,6 +28,7 @@ use Rattle.pl_scope.specs.declared.index.Entry.{Entry}
 use Rattle.pl_scope.specs.declared.found.Found.{Found}
 use Rattle.pl_scope.specs.declared.wanted.Wanted.{Wanted}
 use Rattle.pl_scope.proofs.FoundLaws.{member_defines}
+use Rattle.pl_scope.proofs.MatchingLaws.{named_by}
 use Rattle.pl_scope.proofs.IndexLaws.{made_all, made_small, made_within}
 use Rattle.pl_scope.proofs.ScopeIndexLaws.{best_push, best_is}
 

@@ -23,7 +23,7 @@ cons_is None es = refl
 cons_is (Some e) es = refl
 
 -- a symbol more of an object, of which nothing or one entry is made
-pub entries_more : (o : Object) (m : ℕ) (ss : List Symbol) (i : ℕ) (d : Symbol) (front new whole : List Entry) (x : Option Entry) → i < length ss → x ≡ entry_of o m i (get_or ss i d) → new ≡ front ++ option_to_list x
+entries_more : (o : Object) (m : ℕ) (ss : List Symbol) (i : ℕ) (d : Symbol) (front new whole : List Entry) (x : Option Entry) → i < length ss → x ≡ entry_of o m i (get_or ss i d) → new ≡ front ++ option_to_list x
     → front ++ entries_from o m i (drop i ss) ≡ whole → new ++ entries_from o m (i + 1) (drop (i + 1) ss) ≡ whole
 unfolding entries_from
 entries_more o m ss i d front new whole x lt made more so_far =
@@ -32,9 +32,20 @@ entries_more o m ss i d front new whole x lt made more so_far =
     at_drop_more (entries_from o m i) ss i d lt ∙ ap (λ (y : Option Entry). cons_option y rest) (sym made) ∙ cons_is x rest in
     ap (λ (xs : List Entry). xs ++ rest) more ∙ append_assoc front (option_to_list x) rest ∙ ap (λ (xs : List Entry). front ++ xs) (sym step) ∙ so_far
 
-pub entries_done : (o : Object) (m : ℕ) (ss : List Symbol) (i : ℕ) (front whole : List Entry) → length ss ≤ i → front ++ entries_from o m i (drop i ss) ≡ whole → front ≡ whole
+entries_done : (o : Object) (m : ℕ) (ss : List Symbol) (i : ℕ) (front whole : List Entry) → length ss ≤ i → front ++ entries_from o m i (drop i ss) ≡ whole → front ≡ whole
 unfolding entries_from
 entries_done o m ss i front whole le so_far = sym (append-nil front) ∙ ap (λ (xs : List Entry). front ++ xs) (sym (at_drop_all (entries_from o m i) ss i le)) ∙ so_far
+
+-- the same, where the symbols are said otherwise
+pub entries_more_of : (o : Object) (m : ℕ) (items : List Symbol) (i : ℕ) (d : Symbol) (front new whole : List Entry) (x : Option Entry) → items ≡ o.symbols → i < length items → x ≡ entry_of o m i (get_or items i d) → new ≡ front ++ option_to_list x
+    → front ++ entries_from o m i (drop i o.symbols) ≡ whole → new ++ entries_from o m (i + 1) (drop (i + 1) o.symbols) ≡ whole
+entries_more_of o m items i d front new whole x same lt made more so_far =
+    subst (λ (ss : List Symbol). new ++ entries_from o m (i + 1) (drop (i + 1) ss) ≡ whole) same
+    (entries_more o m items i d front new whole x lt made more (subst (λ (ss : List Symbol). front ++ entries_from o m i (drop i ss) ≡ whole) (sym same) so_far))
+
+pub entries_done_of : (o : Object) (m : ℕ) (items : List Symbol) (i : ℕ) (front whole : List Entry) → items ≡ o.symbols → length items ≤ i → front ++ entries_from o m i (drop i o.symbols) ≡ whole → front ≡ whole
+entries_done_of o m items i front whole same le so_far =
+    entries_done o m items i front whole le (subst (λ (ss : List Symbol). front ++ entries_from o m i (drop i ss) ≡ whole) (sym same) so_far)
 
 -- what holds of the entry of each symbol holds of all
 all_cons : (p : Entry → Type 0) (e : Entry) (es : List Entry) → p e → All p es → All p (e ∷ es)
@@ -94,7 +105,7 @@ module _ (es : List Entry) (h i j : ℕ)
     | inr le ↦ ltb-false j i le
     | inl lt ↦
         let less : j < i = ltb-true j i lt in
-        let d : Entry = record { hash = 0; member = 0 } in
+        let d : Entry = record { hash = 0; member = 0; symbol = 0 } in
         let before = first.0 j d (omega arith) less in
         let after = last.1 j d (omega arith) (omega arith) in
         absurd (omega (arith, ltb-true (mixed (get_or es j d).hash) h before, ltb-false (mixed (get_or es j d).hash) (h + 1) after))
