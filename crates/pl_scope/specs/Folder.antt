@@ -7,6 +7,7 @@ use Rattle.pl_elf.specs.Kinds.{is_program}
 use Rattle.pl_hash.specs.Hash.{gnu}
 use Rattle.pl_object.specs.declared.object.Object.{Object}
 use Rattle.pl_scope.specs.Index.{entries_in, entries_of}
+use Rattle.pl_scope.specs.Entries.{has_value}
 use Rattle.pl_scope.specs.Matching.{defines}
 use Rattle.pl_scope.specs.ScopeIndex.{HasOwn, IsIndex, best_of}
 use Rattle.pl_scope.specs.ShortIndex.{HasShort, IsShortIndex, mixed}
@@ -87,7 +88,11 @@ pub record IsIndexAmong (objects : List Object) (among : Among) : Type 0 where
 abbrev pub IsOnlyDefiner : Object → List ℕ → Class → ℕ → Type 0
 IsOnlyDefiner o name class number = (i : ℕ) (s : Symbol) → slice_get o.symbols i ≡ Some s → defines o name class s ≡ true → i ≡ number
 
--- the same of the object of a member
+-- each definer of a wanted name is among some
+abbrev pub HaveDefiners : Object → Wanted → List Placed → Type 0
+HaveDefiners o w es = (i : ℕ) (s : Symbol) → slice_get o.symbols i ≡ Some s → defines o w.name.now w.class s ≡ true → list_any (has_value i) es ≡ true
+
+-- no other symbol than that of a number defines a name, in the object of a member
 abbrev pub IsOnlyIn : List Object → ℕ → List ℕ → Class → ℕ → Type 0
 IsOnlyIn objects member name class number = (o : Object) → slice_get objects member ≡ Some o → IsOnlyDefiner o name class number
 

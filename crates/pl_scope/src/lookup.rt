@@ -409,6 +409,21 @@ fn best_at(
     }
 }
 
+/// The index of an object's symbol that matches, among some symbols that have all definers of the name.
+fn matching_listed<'x>(object: &'x Object, wanted: &Wanted<'x>, among: &'x [Entry]) -> Option<u32>
+    requires { folder.HaveDefiners object.now wanted.now among.now }
+    ensures { result ≡ probing.matching_for object.now wanted.now }
+{
+    let block = Block {
+        object,
+        name: wanted.name,
+        class: wanted.class,
+        versions: None,
+        place: Place::Among(among),
+    };
+    matching_in_block(&block, wanted.version)
+}
+
 /// The index of an object's symbol that matches, where no other than one can.
 fn matching_alone(object: &Object, wanted: &Wanted<'_>, symbol: u32) -> Option<u32>
     requires { folder.IsOnlyDefiner object.now wanted.now.name.now wanted.now.class symbol }
@@ -418,14 +433,7 @@ fn matching_alone(object: &Object, wanted: &Wanted<'_>, symbol: u32) -> Option<u
         key: 0,
         value: symbol,
     }];
-    let block = Block {
-        object,
-        name: wanted.name,
-        class: wanted.class,
-        versions: None,
-        place: Place::Among(&among),
-    };
-    matching_in_block(&block, wanted.version)
+    matching_listed(object, wanted, &among)
 }
 
 /// The matching definer of a member, where no other symbol of it than one can match.
