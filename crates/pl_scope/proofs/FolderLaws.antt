@@ -177,6 +177,16 @@ pub alone_have : (o : Object) (name : List ℕ) (class : Class) (number key : �
     → list_any (has_value i) (record { key = key; value = number } ∷ []) ≡ true
 alone_have o name class number key only i s at defined = rw (only i s at defined, eq-eqb number number refl) refl
 
+-- what is found where there is one entry
+pub alone_found : (os : List Object) (w : Wanted) (start : ℕ) (among : Among) (count : ℕ) (e : Entry) (new : Option Found) (x : Option ℕ) → w.gnu ≡ gnu w.name.now → IsIndexAmong os among → entries_of among.index.now w.gnu ≡ e ∷ [] → count ≡ length os
+    → x ≡ position_of among.positions.now e → new ≡ best_at os w start None x → new ≡ first_in os w.name.now w.class (option_map (λ x. x.now) w.version) (from_member start count)
+alone_found os w start among count e new x hashed is one all at made =
+    let items : e ∷ [] ≡ entries_of among.index.now (gnu w.name.now) = sym one ∙ ap (entries_of among.index.now) hashed in
+    among_done os w start among.positions.now (e ∷ []) 1 count new (omega arith) all
+    (among_more os w start among.positions.now (e ∷ []) 0 e None new x (omega arith) (none_best os w.name.now w.class (option_map (λ x. x.now) w.version) start) at made)
+    (λ m f found. subst (λ (es : List Entry). list_any (λ (p : Placed). p.value == m) (filter_map (placed among.positions.now) es) ≡ true) (sym items)
+    (among_whole os among w.name.now w.class (option_map (λ x. x.now) w.version) m f is found))
+
 pub or_none : (x : Option Found) → option_or x None ≡ x
 or_none None = refl
 or_none (Some f) = refl

@@ -410,7 +410,7 @@ fn best_at(
 }
 
 /// The index of an object's symbol that matches, among some symbols that have all definers of the name.
-fn matching_listed<'x>(object: &'x Object, wanted: &Wanted<'x>, among: &'x [Entry]) -> Option<u32>
+fn matching_listed(object: &Object, wanted: &Wanted<'_>, among: &[Entry]) -> Option<u32>
     requires { folder.HaveDefiners object.now wanted.now among.now }
     ensures { result ≡ probing.matching_for object.now wanted.now }
 {
