@@ -30,7 +30,7 @@ use Rattle.pl_scope.specs.declared.wanted.Wanted.{Wanted}
 use Rattle.pl_scope.proofs.FoundLaws.{member_defines}
 use Rattle.pl_scope.proofs.MatchingLaws.{named_by}
 use Rattle.pl_scope.proofs.IndexLaws.{made_all, made_small, made_within}
-use Rattle.pl_scope.proofs.ScopeIndexLaws.{best_push, best_is}
+use Rattle.pl_scope.proofs.ScopeIndexLaws.{best_none, best_push, best_is}
 
 -- ---- the definers of all objects
 
@@ -183,7 +183,7 @@ pub alone_found : (os : List Object) (w : Wanted) (start : ℕ) (among : Among) 
 alone_found os w start among count e new x hashed is one all at made =
     let items : e ∷ [] ≡ entries_of among.index.now (gnu w.name.now) = sym one ∙ ap (entries_of among.index.now) hashed in
     among_done os w start among.positions.now (e ∷ []) 1 count new (omega arith) all
-    (among_more os w start among.positions.now (e ∷ []) 0 e None new x (omega arith) (none_best os w.name.now w.class (option_map (λ x. x.now) w.version) start) at made)
+    (among_more os w start among.positions.now (e ∷ []) 0 e None new x (omega arith) (best_none os w.name.now w.class (option_map (λ x. x.now) w.version) start [] refl) at made)
     (λ m f found. subst (λ (es : List Entry). list_any (λ (p : Placed). p.value == m) (filter_map (placed among.positions.now) es) ≡ true) (sym items)
     (among_whole os among w.name.now w.class (option_map (λ x. x.now) w.version) m f is found))
 
