@@ -410,7 +410,7 @@ fn best_at(
 }
 
 /// The index of an object's symbol that matches, among some symbols that have all definers of the name.
-fn matching_listed(object: &Object, wanted: &Wanted<'_>, among: &[Entry]) -> Option<u32>
+fn matching_listed<'x>(object: &'x Object, wanted: &Wanted<'x>, among: &'x [Entry]) -> Option<u32>
     requires { folder.HaveDefiners object.now wanted.now among.now }
     ensures { result ≡ probing.matching_for object.now wanted.now }
 {
@@ -425,7 +425,7 @@ fn matching_listed(object: &Object, wanted: &Wanted<'_>, among: &[Entry]) -> Opt
 }
 
 /// The index of an object's symbol that matches, where no other than one can.
-fn matching_alone(object: &Object, wanted: &Wanted<'_>, symbol: u32) -> Option<u32>
+fn matching_alone<'x>(object: &'x Object, wanted: &Wanted<'x>, symbol: u32) -> Option<u32>
     requires { folder.IsOnlyDefiner object.now wanted.now.name.now wanted.now.class symbol }
     ensures { result ≡ probing.matching_for object.now wanted.now }
 {
