@@ -5,6 +5,7 @@ use Rattle.std.specs.List.{list_any}
 use Rattle.std.specs.List.Sorted.{IsNonDecreasingBy}
 use Rattle.pl_elf.specs.Kinds.{is_program}
 use Rattle.pl_object.specs.SymbolClauses.{version_name}
+use Rattle.pl_object.specs.declared.object.Object.{Object}
 use Rattle.pl_sym.specs.Definers.{is_definer}
 use Rattle.pl_sym.specs.declared.class.Class.TheVariants.{Other}
 use Rattle.pl_sym.specs.declared.symbol.Symbol.{Symbol}
@@ -52,14 +53,14 @@ abbrev pub IsPlace : Block → Place → Type 0
 IsPlace b (places.Lists lists) = AreLists b lists
 IsPlace b (places.Among among) = HaveName b among.now
 
--- the object's versions, where there is an index of versions
-abbrev pub AreVersionsOf : Block → Option (Bor VersionIndex) → Type 0
-AreVersionsOf b None = ⊤
-AreVersionsOf b (Some versions) = IsVersionIndex b.object.now.versions versions.now
+-- an object's versions, where there is an index of versions
+abbrev pub AreVersionsOf : Object → Option (Bor VersionIndex) → Type 0
+AreVersionsOf o None = ⊤
+AreVersionsOf o (Some versions) = IsVersionIndex o.versions versions.now
 
 -- the object's versions, and where the definers of the name are
 pub record IsBlock (b : Block) : Type 0 where
-  pub versions : AreVersionsOf b b.versions
+  pub versions : AreVersionsOf b.object.now b.versions
   pub place : IsPlace b b.place
 
 -- lists are in the order of their keys

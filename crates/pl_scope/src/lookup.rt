@@ -8,6 +8,7 @@ ghost use Rattle.pl_scope.specs.Scope.{objects, IsFit, IsReference, IsSymbol};
 ghost use Rattle.pl_scope.specs.Definers as pairs;
 ghost use Rattle.pl_scope.specs.Entries as entries;
 ghost use Rattle.pl_scope.specs.Probing as probing;
+ghost use Rattle.pl_scope.specs.Block as block;
 ghost use Rattle.pl_scope.specs.Folder as folder;
 ghost use Rattle.pl_scope.specs.Index as names;
 ghost use Rattle.pl_scope.specs.ScopeIndex as index;
@@ -25,6 +26,7 @@ use crate::scope_index::{ScopeIndex, members_under, own_at};
 use crate::short_index::{
     ShortIndex, UnderName, member_of, mixed, of_member, under_hash, versions_at,
 };
+use crate::version_index::VersionIndex;
 use crate::wanted::{Wanted, wanted_by};
 use crate::{Found, Reference, Scope};
 use pl_elf::constants::R_X86_64_COPY;
@@ -410,22 +412,28 @@ fn best_at(
 }
 
 /// The index of an object's symbol that matches, among some symbols that have all definers of the name.
-fn matching_listed<'x>(object: &'x Object, wanted: &Wanted<'x>, among: &'x [Entry]) -> Option<u32>
-    requires { folder.HaveDefiners object.now wanted.now among.now }
+fn matching_listed(
+    object: &Object,
+    wanted: &Wanted<'_>,
+    versions: Option<&VersionIndex<'_>>,
+    among: &[Entry],
+) -> Option<u32>
+    requires versions { block.AreVersionsOf object.now versions }
+    requires among { folder.HaveDefiners object.now wanted.now among.now }
     ensures { result ≡ probing.matching_for object.now wanted.now }
 {
     let block = Block {
         object,
         name: wanted.name,
         class: wanted.class,
-        versions: None,
+        versions,
         place: Place::Among(among),
     };
     matching_in_block(&block, wanted.version)
 }
 
 /// The index of an object's symbol that matches, where no other than one can.
-fn matching_alone<'x>(object: &'x Object, wanted: &Wanted<'x>, symbol: u32) -> Option<u32>
+fn matching_alone(object: &Object, wanted: &Wanted<'_>, symbol: u32) -> Option<u32>
     requires { folder.IsOnlyDefiner object.now wanted.now.name.now wanted.now.class symbol }
     ensures { result ≡ probing.matching_for object.now wanted.now }
 {
@@ -433,7 +441,7 @@ fn matching_alone<'x>(object: &'x Object, wanted: &Wanted<'x>, symbol: u32) -> O
         key: 0,
         value: symbol,
     }];
-    matching_listed(object, wanted, &among)
+    matching_listed(object, wanted, None, &among)
 }
 
 /// The matching definer of a member, where no other symbol of it than one can match.

@@ -8,4 +8,4 @@ use Rattle.pl_scope.proofs.block.version_of_word.Goals as goal
 pub returns-in-Some : goal.returns-in-Some
 returns-in-Some c =
     let block = c.args.block.now in
-    c.name_of.ensures ∙ version_found block.object.now.versions c.in-Some.versions.now c.args.word (subst (λ (x : Option (Bor VersionIndex)). AreVersionsOf block x) c.in-Some.is c.requires.versions)
+    c.name_of.ensures ∙ version_found block.object.now.versions c.in-Some.versions.now c.args.word (subst (λ (x : Option (Bor VersionIndex)). AreVersionsOf block.object.now x) c.in-Some.is c.requires.versions)
