@@ -1,12 +1,5 @@
-use Rattle.std.proofs.Common.{◌≡◌, ℕ, ◌<◌, List, [], ◌∷◌, length, None, true, refl, ap, sym, subst, ◌∙◌, arith}
-use Rattle.std.specs.List.{filter_map, list_any}
-use Rattle.std.specs.Option.{option_map}
-use Rattle.std.specs.Prelude.{◌==◌}
-use Rattle.pl_scope.specs.Folder.{placed}
-use Rattle.pl_scope.specs.Index.{entries_of}
+use Rattle.std.proofs.Common.{ℕ, ◌<◌, length, sym, subst}
 use Rattle.pl_scope.specs.Scope.{objects}
-use Rattle.pl_scope.specs.declared.entries.Entry.{Entry as Placed}
-use Rattle.pl_scope.specs.declared.index.Entry.{Entry}
 use Rattle.pl_scope.proofs.MemberLaws.{length_objects}
 use Rattle.pl_scope.proofs.FolderLaws.{alone_found, only_in, within_by}
 use Rattle.pl_scope.proofs.lookup.first_alone.Goals as goal

@@ -1,4 +1,3 @@
-use Rattle.std.proofs.Common.{◌∙◌}
 use Rattle.pl_scope.proofs.FolderLaws.{folder_index, sorted_in_order}
 use Rattle.pl_scope.proofs.folder.Index.of.Goals as goal
 
