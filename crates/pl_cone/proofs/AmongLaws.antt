@@ -1,16 +1,14 @@
 -- The index of a folder tells the definers of the members of a walk.
 use Rattle.std.proofs.Common.{◌≡◌, ◌≢◌, ℕ, zero, suc, ◌+◌, ◌<◌, ◌≤◌, Bool, true, false, List, [], ◌∷◌, length, replicate, set, Option, Some, None, refl, sym, ap, ◌∙◌, arith, inl, inr}
-use Rattle.std.specs.Prelude.{◌==◌, slice_get}
-use Rattle.std.specs.List.{filter_map, list_any, cons_option}
-use Rattle.std.specs.Option.{option_map}
+use Rattle.std.specs.Prelude.{◌==◌, ◌&&◌, slice_get}
+use Rattle.std.specs.List.{list_any}
 use Rattle.std.proofs.lemmas.Bool.{cases_Bool, false≢true, and_parts, or_left, or_right, eqb-true, eq-eqb}
 use Rattle.std.proofs.lemmas.Option.{none-some, same_Some, slice_get_within}
 use Rattle.pl_hash.specs.Hash.{gnu}
-use Rattle.pl_scope.specs.Folder.{IsFolderIndex, position_in, position_of}
+use Rattle.pl_scope.specs.Folder.{IsFolderIndex, is_at, is_placed, position_in, position_of}
 use Rattle.pl_scope.specs.Index.{entries_of, is_entry}
 use Rattle.pl_scope.specs.Scope.{objects}
 use Rattle.pl_scope.specs.Walk.{Walked}
-use Rattle.pl_scope.specs.declared.entries.Entry.{Entry as Placed}
 use Rattle.pl_scope.specs.declared.index.Entry.{Entry}
 use Rattle.pl_scope.proofs.MemberLaws.{length_objects}
 use Rattle.pl_cone.specs.Table.{AreRows, IsIndexOfScope, IsWalkScope, folder_objects, positions_from, positions_of}
@@ -103,37 +101,26 @@ positions_below count rows r m at = omega (arith, below_from rows 0 (replicate c
 
 -- ---- the entries of a member
 
-abbrev entry_at : List (Option ℕ) → Entry → Option Placed
-entry_at positions e = option_map (λ p. record { key = e.hash; value = p }) (position_of positions e)
+at_place : (positions : List (Option ℕ)) (e : Entry) (r m : ℕ) → e.member ≡ r → position_in (slice_get positions r) ≡ Some m → is_at (position_of positions e) m ≡ true
+at_place positions e r m same at = ap (λ (x : Option ℕ). is_at x m) (ap (λ (k : ℕ). position_in (slice_get positions k)) same ∙ at) ∙ eq-eqb m m refl
 
-abbrev told : List (Option ℕ) → ℕ → List Entry → Bool
-told positions m es = list_any (λ e. e.value == m) (filter_map (entry_at positions) es)
+told_here : (positions : List (Option ℕ)) (e : Entry) (r m i : ℕ) → e.member ≡ r → (e.symbol == i) ≡ true → position_in (slice_get positions r) ≡ Some m → is_placed positions m i e ≡ true
+told_here positions e r m i same symbol at = rw (at_place positions e r m same at, symbol) refl
 
-made_is : (positions : List (Option ℕ)) (e : Entry) (r m : ℕ) → e.member ≡ r → position_in (slice_get positions r) ≡ Some m → entry_at positions e ≡ Some (record { key = e.hash; value = m })
-made_is positions e r m same at = ap (option_map (λ (p : ℕ). record { key = e.hash; value = p })) (ap (λ (k : ℕ). position_in (slice_get positions k)) same ∙ at)
+abbrev told : List (Option ℕ) → ℕ → ℕ → List Entry → Bool
+told positions m i es = list_any (is_placed positions m i) es
 
-told_here : (positions : List (Option ℕ)) (e : Entry) (es : List Entry) (r m : ℕ) → e.member ≡ r → position_in (slice_get positions r) ≡ Some m → told positions m (e ∷ es) ≡ true
-told_here positions e es r m same at =
-    ap (λ (x : Option Placed). list_any (λ (k : Placed). k.value == m) (cons_option x (filter_map (entry_at positions) es))) (made_is positions e r m same at)
-    ∙ or_left (m == m) (told positions m es) (eq-eqb m m refl)
-
-told_by : (positions : List (Option ℕ)) (m : ℕ) (es : List Entry) (x : Option Placed) → told positions m es ≡ true → list_any (λ e. e.value == m) (cons_option x (filter_map (entry_at positions) es)) ≡ true
-told_by positions m es None any = any
-told_by positions m es (Some e) any = or_right (e.value == m) (told positions m es) any
-
-told_later : (positions : List (Option ℕ)) (e : Entry) (es : List Entry) (m : ℕ) → told positions m es ≡ true → told positions m (e ∷ es) ≡ true
-told_later positions e es m any = told_by positions m es (entry_at positions e) any
-
-member_told : (positions : List (Option ℕ)) (h r m : ℕ) (es : List Entry) → position_in (slice_get positions r) ≡ Some m → list_any (is_entry h r) es ≡ true → told positions m (entries_of es h) ≡ true
-member_told positions h r m [] at any = absurd (false≢true any)
-member_told positions h r m (e ∷ es) at any = elim (cases_Bool (is_entry h r e)) [
+member_told : (positions : List (Option ℕ)) (h r m i : ℕ) (es : List Entry) → position_in (slice_get positions r) ≡ Some m → list_any (is_entry h r i) es ≡ true → told positions m i (entries_of es h) ≡ true
+member_told positions h r m i [] at any = absurd (false≢true any)
+member_told positions h r m i (e ∷ es) at any = elim (cases_Bool (is_entry h r i e)) [
   | inl here ↦
-      let p = and_parts (e.hash == h) (e.member == r) here in
-      rw p.0 (told_here positions e (entries_of es h) r m (eqb-true e.member r p.1) at)
+      let p = and_parts (e.hash == h) (e.member == r && e.symbol == i) here in
+      let q = and_parts (e.member == r) (e.symbol == i) p.1 in
+      rw p.0 (or_left (is_placed positions m i e) (told positions m i (entries_of es h)) (told_here positions e r m i (eqb-true e.member r q.0) q.1 at))
   | inr other ↦
-      let rest : told positions m (entries_of es h) ≡ true = member_told positions h r m es at (rw other at any) in
+      let rest : told positions m i (entries_of es h) ≡ true = member_told positions h r m i es at (rw other at any) in
       elim (cases_Bool (e.hash == h)) [
-        | inl hit ↦ rw hit (told_later positions e (entries_of es h) m rest)
+        | inl hit ↦ rw hit (or_right (is_placed positions m i e) (told positions m i (entries_of es h)) rest)
         | inr miss ↦ rw miss rest
       ]
 ]
@@ -150,9 +137,9 @@ index_among ts rows index w are once folder is = λ among same places. record {
   whole = λ m i o s at own defines.
       let named : (n : List ℕ) × (slice_get w.scope m ≡ Some (n, o)) = member_of w.scope m o at in
       let f : IsRowMember ts rows m named.0 o = row_member ts rows m named.0 o are.each (ap (λ (v : Walked). slice_get v m) (sym is.scope) ∙ named.1) in
-      let entry : list_any (is_entry (gnu s.name) f.row) index ≡ true = entry_there (folder_objects ts) index f.row i o s folder (object_at_row ts f.row f.taken o f.file f.object) own defines in
+      let entry : list_any (is_entry (gnu s.name) f.row i) index ≡ true = entry_there (folder_objects ts) index f.row i o s folder (object_at_row ts f.row f.taken o f.file f.object) own defines in
       let position : position_in (slice_get (positions_of (length ts) rows) f.row) ≡ Some m = position_there (length ts) rows m f.row once f.at (slice_get_within ts f.row f.taken f.file) in
-      ap (λ (es : List Entry). told among.positions.now m (entries_of es (gnu s.name))) same
-      ∙ (ap (λ (ps : List (Option ℕ)). told ps m (entries_of index (gnu s.name))) (places ∙ is.positions)
-      ∙ member_told (positions_of (length ts) rows) (gnu s.name) f.row m index position entry);
+      ap (λ (es : List Entry). told among.positions.now m i (entries_of es (gnu s.name))) same
+      ∙ (ap (λ (ps : List (Option ℕ)). told ps m i (entries_of index (gnu s.name))) (places ∙ is.positions)
+      ∙ member_told (positions_of (length ts) rows) (gnu s.name) f.row m i index position entry);
 }

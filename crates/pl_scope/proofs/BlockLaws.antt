@@ -38,11 +38,11 @@ abbrev Test : Block → Pick → Symbol → Bool
 Test b pick = taken b.object.now b.name.now b.class pick
 
 -- a definer of the name stands in a list under the name's key and what stands beside it there
-listed : (b : Block) (l : Lists) (listing : Listing) (es : List Entry) (i tag : ℕ) (s : Symbol) → AreLists b l → IsList l.numbers.now b.versions.now b.object.now listing es → slice_get b.object.now.symbols i ≡ Some s → defines b.object.now b.name.now b.class s ≡ true
-    → tag_of l.numbers.now b.versions.now listing s ≡ Some tag → list_any (is_entry (pair l.key tag) i) es ≡ true
+listed : (b : Block) (l : Lists) (listing : Listing) (es : List Entry) (i tag : ℕ) (s : Symbol) → AreLists b l → IsList l.numbers.now l.versions.now b.object.now listing es → slice_get b.object.now.symbols i ≡ Some s → defines b.object.now b.name.now b.class s ≡ true
+    → tag_of l.numbers.now l.versions.now listing s ≡ Some tag → list_any (is_entry (pair l.key tag) i) es ≡ true
 listed b l listing es i tag s are list at definer tagged =
     let n = named_by b.object.now b.name.now b.class s definer in
-    list.whole i (pair l.key tag) (key_is l.numbers.now b.versions.now b.object.now listing b.name.now l.key i tag s are.keyed at n.definer n.named tagged)
+    list.whole i (pair l.key tag) (key_is l.numbers.now l.versions.now b.object.now listing b.name.now l.key i tag s are.keyed at n.definer n.named tagged)
 
 -- the lists are in the order of their keys
 pub are_rising : (b : Block) (l : Lists) → AreLists b l → AreRising l.definers.now
@@ -54,14 +54,14 @@ pub plain_here : (b : Block) (l : Lists) (es : List Entry) → AreLists b l → 
 plain_here b l es are under i holds =
     let at = symbol_at (Test b picks.Plain) (slice_get b.object.now.symbols i) holds in
     let parts = and_parts _ _ at.2 in
-    let tagged : tag_of l.numbers.now b.versions.now lists.Index at.0 ≡ Some VER_NDX_GLOBAL = ap (λ (v : ℕ). Some (index_of v)) (eqb-true at.0.version VER_NDX_GLOBAL parts.1) in
+    let tagged : tag_of l.numbers.now l.versions.now lists.Index at.0 ≡ Some VER_NDX_GLOBAL = ap (λ (v : ℕ). Some (index_of v)) (eqb-true at.0.version VER_NDX_GLOBAL parts.1) in
     from_under l.definers.now.by_index.items es (pair l.key VER_NDX_GLOBAL) i under (listed b l lists.Index l.definers.now.by_index.items i VER_NDX_GLOBAL at.0 are are.definers.by_index at.1 parts.0 tagged)
 
 pub index_here : (b : Block) (l : Lists) (index : ℕ) (es : List Entry) → AreLists b l → AreUnder l.definers.now.by_index.items (pair l.key index) es → AreCandidates b (picks.Index index) es
 index_here b l index es are under i holds =
     let at = symbol_at (Test b (picks.Index index)) (slice_get b.object.now.symbols i) holds in
     let parts = and_parts _ _ at.2 in
-    let tagged : tag_of l.numbers.now b.versions.now lists.Index at.0 ≡ Some index = ap (λ (k : ℕ). Some k) (eqb-true (index_of at.0.version) index parts.1) in
+    let tagged : tag_of l.numbers.now l.versions.now lists.Index at.0 ≡ Some index = ap (λ (k : ℕ). Some k) (eqb-true (index_of at.0.version) index parts.1) in
     from_under l.definers.now.by_index.items es (pair l.key index) i under (listed b l lists.Index l.definers.now.by_index.items i index at.0 are are.definers.by_index at.1 parts.0 tagged)
 
 pub each_here : (b : Block) (l : Lists) (es : List Entry) → AreLists b l → AreBetween l.definers.now.by_index.items (pair l.key 0) (end_of_name l.key) es → AreCandidates b picks.Each es
@@ -81,7 +81,7 @@ unfolding counts
 shown_here b l es are under i holds =
     let at = symbol_at (Test b picks.Shown) (slice_get b.object.now.symbols i) holds in
     let parts = and_parts _ _ at.2 in
-    let tagged : tag_of l.numbers.now b.versions.now lists.Shown at.0 ≡ Some 0 = ap (λ (c : Bool). if c then Some 0 else None) parts.1 in
+    let tagged : tag_of l.numbers.now l.versions.now lists.Shown at.0 ≡ Some 0 = ap (λ (c : Bool). if c then Some 0 else None) parts.1 in
     from_under l.definers.now.shown.items es (pair l.key 0) i under (listed b l lists.Shown l.definers.now.shown.items i 0 at.0 are are.definers.shown at.1 parts.0 tagged)
 
 -- among all definers of the name is each that a step takes
@@ -107,8 +107,8 @@ none_have b l version are none i s at definer has =
 
 pub version_here : (b : Block) (l : Lists) (version : List ℕ) (key : ℕ) (es : List Entry) → IsBlock b → AreLists b l → key_of l.numbers.now version ≡ Some key → AreUnder l.definers.now.by_version.items (pair l.key key) es → HaveVersion b version es
 version_here b l version key es is are known under i s at definer has =
-    let tagged : tag_of l.numbers.now b.versions.now lists.Version s ≡ Some key =
-    ap (λ (x : Option (List ℕ)). option_and_then (key_of l.numbers.now) x) (version_found b.object.now.versions b.versions.now s.version is.versions ∙ version_is b version s has) ∙ known in
+    let tagged : tag_of l.numbers.now l.versions.now lists.Version s ≡ Some key =
+    ap (λ (x : Option (List ℕ)). option_and_then (key_of l.numbers.now) x) (version_found b.object.now.versions l.versions.now s.version are.versions ∙ version_is b version s has) ∙ known in
     from_under l.definers.now.by_version.items es (pair l.key key) i under (listed b l lists.Version l.definers.now.by_version.items i key s are are.definers.by_version at definer tagged)
 
 pub versions_here : (b : Block) (version : Pick) (name : List ℕ) (es : List Entry) → ((s : Symbol) → Test b version s ≡ (defines b.object.now b.name.now b.class s && has_version b.object.now name s)) → HaveVersion b name es → AreCandidates b version es

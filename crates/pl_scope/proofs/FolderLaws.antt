@@ -1,34 +1,36 @@
 -- The index of a folder: its entries in order, each once, those of a hash, and the search among the members of a scope.
-use Rattle.std.proofs.Common.{◌≡◌, ℕ, zero, suc, ◌+◌, ◌<◌, ◌≤◌, Bool, true, false, ◌||◌, List, [], ◌∷◌, ◌++◌, length, take, drop, get_or, Option, Some, None, refl, sym, ap, ◌∙◌, subst, arith, append_assoc}
+use Rattle.std.proofs.Common.{◌≡◌, ℕ, ◌+◌, ◌<◌, ◌≤◌, Bool, true, false, ◌||◌, List, [], ◌∷◌, ◌++◌, length, take, drop, get_or, Option, Some, None, refl, sym, ap, ◌∙◌, subst, arith, append_assoc, inl, inr}
 use Rattle.std.specs.Prelude.{slice_get, ◌==◌}
-use Rattle.std.specs.Option.{option_map, option_to_list}
-use Rattle.std.specs.List.{All, list_any, filter_map, dedup, dedup_from}
+use Rattle.std.specs.Option.{option_map, option_or, option_to_list}
+use Rattle.std.specs.List.{All, list_any, filter_map}
 use Rattle.std.specs.List.Sorted.{IsNonDecreasingBy, IsPermutation}
-use Rattle.std.proofs.lemmas.Bool.{cond_both, and_parts, eqb-true}
+use Rattle.std.proofs.lemmas.Bool.{cases_Bool, and_parts, or_left, or_right, eqb-true, eq-eqb}
 use Rattle.std.proofs.lemmas.List.{take_more, take_all, append-nil, at_drop_more, at_drop_all}
-use Rattle.std.proofs.lemmas.List.Elements.{All-append, All-tail, All-nil, filter_map-append}
-use Rattle.std.proofs.lemmas.List.Filters.{All-dedup}
-use Rattle.std.proofs.lemmas.List.Sorted.{All-permutation, list_any-IsPermutation}
-use Rattle.pl_base.proofs.MemoryLaws.{All-filter_map}
+use Rattle.std.proofs.lemmas.List.Elements.{All-append, All-nil, filter_map-append}
+use Rattle.std.proofs.lemmas.List.Sorted.{All-permutation}
 use Rattle.pl_sym.specs.Definers.{is_definer}
+use Rattle.pl_sym.specs.declared.symbol.Symbol.{Symbol}
 use Rattle.pl_sym.specs.declared.class.Class.{Class}
 use Rattle.pl_sym.specs.declared.class.Class.TheVariants.{Other}
 use Rattle.pl_hash.specs.Hash.{gnu}
 use Rattle.pl_elf.specs.Kinds.{is_program}
 use Rattle.pl_object.specs.declared.object.Object.{Object}
 use Rattle.pl_scope.specs.Finds.{in_member, first_in, from_member}
-use Rattle.pl_scope.specs.Index.{entry_of, entries_of, is_entry, AreSmallHashes, IsInOrder}
+use Rattle.pl_scope.specs.Index.{entries_of, AreSmallHashes, IsInOrder}
 use Rattle.pl_scope.specs.ShortIndex.{mixed}
+use Rattle.pl_scope.specs.Entries.{has_value}
+use Rattle.pl_scope.specs.Matching.{defines}
 use Rattle.pl_scope.specs.ScopeIndex.{IsBest}
-use Rattle.pl_scope.specs.Folder.{entries_at, all_from, all_entries, order_of, is_same, AreSmallRows, IsFolderIndex, position_of, position_in, placed, IsIndexAmong, best_at}
+use Rattle.pl_scope.specs.Folder.{entries_at, all_from, all_entries, order_of, AreSmallRows, IsFolderIndex, position_of, position_in, placed, is_at, is_placed, IsIndexAmong, IsOnlyDefiner, IsOnlyIn, best_at}
 use Rattle.pl_scope.specs.declared.folder.Among.{Among}
 use Rattle.pl_scope.specs.declared.entries.Entry.{Entry as Placed}
 use Rattle.pl_scope.specs.declared.index.Entry.{Entry}
 use Rattle.pl_scope.specs.declared.found.Found.{Found}
 use Rattle.pl_scope.specs.declared.wanted.Wanted.{Wanted}
 use Rattle.pl_scope.proofs.FoundLaws.{member_defines}
-use Rattle.pl_scope.proofs.IndexLaws.{made_small, made_within}
-use Rattle.pl_scope.proofs.ScopeIndexLaws.{best_push, best_is}
+use Rattle.pl_scope.proofs.MatchingLaws.{named_by}
+use Rattle.pl_scope.proofs.IndexLaws.{made_all, made_small, made_within}
+use Rattle.pl_scope.proofs.ScopeIndexLaws.{best_none, best_push, best_is}
 
 -- ---- the definers of all objects
 
@@ -48,7 +50,7 @@ all_done os row front le so_far = sym (append-nil front) ∙ ap (λ (xs : List E
 at_within : (row n : ℕ) (o : Option Object) → row < n → All (λ e. e.member < n) (entries_at row o)
 at_within row n None lt = All-nil (λ (e : Entry). e.member < n)
 at_within row n (Some o) lt =
-    All-filter_map (λ (e : Entry). e.member < n) (entry_of o row) o.symbols (λ i d at. made_within o row n (get_or o.symbols i d) (is_definer (get_or o.symbols i d) Other (is_program o.kind)) lt)
+    made_all (λ (e : Entry). e.member < n) o row 0 o.symbols (λ j s. made_within row n j s (is_definer s Other (is_program o.kind)) lt)
 
 all_within : (row : ℕ) (os : List (Option Object)) → All (λ e. e.member < row + length os) (all_from row os)
 unfolding all_from
@@ -66,7 +68,7 @@ rows_are os es few is =
 at_small : (row : ℕ) (o : Option Object) → All (λ e. e.hash < 4294967296) (entries_at row o)
 at_small row None = All-nil (λ (e : Entry). e.hash < 4294967296)
 at_small row (Some o) =
-    All-filter_map (λ (e : Entry). e.hash < 4294967296) (entry_of o row) o.symbols (λ i d at. made_small row (get_or o.symbols i d) (is_definer (get_or o.symbols i d) Other (is_program o.kind)))
+    made_all (λ (e : Entry). e.hash < 4294967296) o row 0 o.symbols (λ j s. made_small row j s (is_definer s Other (is_program o.kind)))
 
 all_small : (row : ℕ) (os : List (Option Object)) → All (λ e. e.hash < 4294967296) (all_from row os)
 unfolding all_from
@@ -84,77 +86,17 @@ hashes_rise es rows up i j d le lt =
     let row = rows j d lt in
     omega (arith, at, row)
 
--- ---- each once
+-- ---- the index
 
-same_entry : (x y : Entry) → is_same x y ≡ true → x ≡ y
-same_entry x y same =
-    let parts = and_parts (x.hash == y.hash) (x.member == y.member) same in
-    let hash : x.hash ≡ y.hash = eqb-true x.hash y.hash parts.0 in
-    let member : x.member ≡ y.member = eqb-true x.member y.member parts.1 in
-    ap (λ (h : ℕ). entry h x.member) hash ∙ ap (λ (m : ℕ). entry y.hash m) member
-  where
-    entry : ℕ → ℕ → Entry
-    entry h m = record { hash = h; member = m }
-
-module _ {X : Type 0} (n : X → ℕ) (same : X → X → Bool) where
-  rising_cons : (x : X) (xs : List X) → All (λ y. n x ≤ n y) xs → IsNonDecreasingBy n xs → IsNonDecreasingBy n (x ∷ xs)
-  rising_cons x xs low up zero zero d le lt = omega arith
-  rising_cons x xs low up zero (suc j) d le lt = low j d (omega (arith, lt))
-  rising_cons x xs low up (suc i) zero d le lt = absurd (omega (arith, le))
-  rising_cons x xs low up (suc i) (suc j) d le lt = up i j d (omega (arith, le)) (omega (arith, lt))
-
-  rising_tail : (x : X) (xs : List X) → IsNonDecreasingBy n (x ∷ xs) → IsNonDecreasingBy n xs
-  rising_tail x xs up i j d le lt = up (suc i) (suc j) d (omega (arith, le)) (omega (arith, lt))
-
-  rising_head : (x : X) (xs : List X) → IsNonDecreasingBy n (x ∷ xs) → All (λ y. n x ≤ n y) xs
-  rising_head x xs up k d lt = up zero (suc k) d (omega arith) (omega (arith, lt))
-
-  rising_from : (x : X) (xs : List X) → IsNonDecreasingBy n (x ∷ xs) → IsNonDecreasingBy n (dedup_from same x xs)
-  rising_from x [] up = up
-  rising_from x (y ∷ ys) up =
-      let tail : IsNonDecreasingBy n (y ∷ ys) = rising_tail x (y ∷ ys) up in
-      let low : All (λ z. n x ≤ n z) (y ∷ ys) = rising_head x (y ∷ ys) up in
-      cond_both (same y x) (dedup_from same x ys) (x ∷ dedup_from same y ys) (λ (zs : List X). IsNonDecreasingBy n zs)
-      (λ is. rising_from x ys (rising_cons x ys (All-tail (λ (z : X). n x ≤ n z) y ys low) (rising_tail y ys tail)))
-      (λ is. rising_cons x (dedup_from same y ys) (All-dedup same (λ (z : X). n x ≤ n z) (y ∷ ys) low) (rising_from y ys tail))
-
-  pub rising_dedup : (xs : List X) → IsNonDecreasingBy n xs → IsNonDecreasingBy n (dedup same xs)
-  rising_dedup [] up = up
-  rising_dedup (x ∷ xs) up = rising_from x xs up
-
-twice : (a b : Bool) → (a || b) ≡ (a || (a || b))
-twice true b = refl
-twice false b = refl
-
-any_from : (p : Entry → Bool) (x : Entry) (xs : List Entry) → list_any p (dedup_from is_same x xs) ≡ list_any p (x ∷ xs)
-any_from p x [] = refl
-any_from p x (y ∷ ys) =
-    cond_both (is_same y x) (dedup_from is_same x ys) (x ∷ dedup_from is_same y ys) (λ (zs : List Entry). list_any p zs ≡ list_any p (x ∷ y ∷ ys))
-    (λ is.
-    let same : y ≡ x = same_entry y x is in
-    any_from p x ys ∙ twice (p x) (list_any p ys) ∙ ap (λ (z : Entry). p x || (p z || list_any p ys)) (sym same))
-    (λ is. ap (λ (b : Bool). p x || b) (any_from p y ys))
-
-any_dedup : (p : Entry → Bool) (xs : List Entry) → list_any p (dedup is_same xs) ≡ list_any p xs
-any_dedup p [] = refl
-any_dedup p (x ∷ xs) = any_from p x xs
-
--- sorted, and each once, they are in order
-pub once_in_order : (all sorted once : List Entry) → AreSmallHashes all → IsPermutation all sorted → IsNonDecreasingBy (λ e. mixed e.hash) sorted → once ≡ dedup is_same sorted → IsInOrder once
-once_in_order all sorted once small same rising dropped =
-    subst (λ (es : List Entry). IsInOrder es) (sym dropped)
-    (record {
-      rising = rising_dedup (λ (e : Entry). mixed e.hash) is_same sorted rising;
-      small = All-dedup is_same (λ (e : Entry). e.hash < 4294967296) sorted (All-permutation (λ (e : Entry). e.hash < 4294967296) all sorted same small);
-    })
+-- sorted, they are in order
+pub sorted_in_order : (all sorted kept : List Entry) → AreSmallHashes all → IsPermutation all sorted → IsNonDecreasingBy (λ e. mixed e.hash) sorted → kept ≡ sorted → IsInOrder kept
+sorted_in_order all sorted kept small same rising is =
+    subst (λ (es : List Entry). IsInOrder es) (sym is) (record { rising = rising; small = All-permutation (λ (e : Entry). e.hash < 4294967296) all sorted same small })
 
 -- and an index
-pub folder_index : (os : List (Option Object)) (all sorted once : List Entry) → all ≡ all_entries os → IsPermutation all sorted → once ≡ dedup is_same sorted → IsFolderIndex os once
-folder_index os all sorted once is same dropped hash row =
-    ap (list_any (is_entry hash row)) dropped
-    ∙ any_dedup (is_entry hash row) sorted
-    ∙ sym (list_any-IsPermutation (is_entry hash row) all sorted same)
-    ∙ ap (list_any (is_entry hash row)) is
+pub folder_index : (os : List (Option Object)) (all sorted kept : List Entry) → all ≡ all_entries os → IsPermutation all sorted → kept ≡ sorted → IsFolderIndex os kept
+folder_index os all sorted kept is same kept_is =
+    subst (λ (es : List Entry). IsPermutation es kept) is (subst (λ (es : List Entry). IsPermutation all es) (sym kept_is) same)
 
 -- ---- a search among the members of a scope
 
@@ -192,12 +134,62 @@ module _ (os : List Object) (w : Wanted) (start : ℕ) (positions : List (Option
       rw all (best_is os w.name.now w.class (option_map (λ x. x.now) w.version) start (filter_map (placed positions) items) best
       (subst (λ (xs : List Entry). IsBestOf (filter_map (placed positions) xs) best) (take_all i items le) is) whole)
 
+abbrev told : List (Option ℕ) → ℕ → List Entry → Bool
+told positions m es = list_any (λ e. e.value == m) (filter_map (placed positions) es)
+
+told_by : (positions : List (Option ℕ)) (m : ℕ) (e : Entry) (es : List Entry) (x : Option ℕ) → position_of positions e ≡ x → (is_at x m || told positions m es) ≡ true → told positions m (e ∷ es) ≡ true
+told_by positions m e es None at any = rw at any
+told_by positions m e es (Some k) at any = rw at any
+
+-- an entry of a symbol of a member is one of the member
+told_member : (positions : List (Option ℕ)) (m i : ℕ) (es : List Entry) → list_any (is_placed positions m i) es ≡ true → told positions m es ≡ true
+told_member positions m i [] any = any
+told_member positions m i (e ∷ es) any = told_by positions m e es (position_of positions e) refl (elim (cases_Bool (is_placed positions m i e)) [
+  | inl here ↦ or_left (is_at (position_of positions e) m) (told positions m es) (and_parts (is_at (position_of positions e) m) (e.symbol == i) here).0
+  | inr other ↦ or_right (is_at (position_of positions e) m) (told positions m es) (told_member positions m i es (rw other at any))
+])
+
 -- each member with a definer of the name is under its hash
 pub among_whole : (os : List Object) (among : Among) (name : List ℕ) (class : Class) (version : Option (List ℕ)) (m : ℕ) (f : Found) → IsIndexAmong os among → in_member os name class version m ≡ Some f
     → list_any (λ e. e.value == m) (filter_map (placed among.positions.now) (entries_of among.index.now (gnu name))) ≡ true
 among_whole os among name class version m f is e =
     let d = member_defines os name class version m f e in
-    subst (λ (n : List ℕ). list_any (λ (x : Placed). x.value == m) (filter_map (placed among.positions.now) (entries_of among.index.now (gnu n))) ≡ true) d.named (is.whole m d.index d.object d.symbol d.object_at d.symbol_at d.defines)
+    subst (λ (n : List ℕ). list_any (λ (x : Placed). x.value == m) (filter_map (placed among.positions.now) (entries_of among.index.now (gnu n))) ≡ true) d.named
+    (told_member among.positions.now m d.index (entries_of among.index.now (gnu d.symbol.name)) (is.whole m d.index d.object d.symbol d.object_at d.symbol_at d.defines))
+
+-- ---- one entry under a hash
+
+-- the symbol of the only entry of a hash is the only definer
+pub only_in : (os : List Object) (among : Among) (name : List ℕ) (class : Class) (hash m : ℕ) (e : Entry) → hash ≡ gnu name → IsIndexAmong os among → entries_of among.index.now hash ≡ e ∷ [] → IsOnlyIn os m name class e.symbol
+only_in os among name class hash m e hashed is one = λ o there i s at defined.
+    let n = named_by o name class s defined in
+    let listed : entries_of among.index.now (gnu s.name) ≡ e ∷ [] = ap (λ (x : List ℕ). entries_of among.index.now (gnu x)) n.named ∙ (ap (entries_of among.index.now) (sym hashed) ∙ one) in
+    let any : list_any (is_placed among.positions.now m i) (e ∷ []) ≡ true = subst (λ (es : List Entry). list_any (is_placed among.positions.now m i) es ≡ true) listed (is.whole m i o s there at n.definer) in
+    let here : is_placed among.positions.now m i e ≡ true = sym (or_nothing (is_placed among.positions.now m i e)) ∙ any in
+    sym (eqb-true e.symbol i (and_parts (is_at (position_of among.positions.now e) m) (e.symbol == i) here).1)
+  where
+    or_nothing : (b : Bool) → (b || false) ≡ b
+    or_nothing true = refl
+    or_nothing false = refl
+
+-- that symbol alone is looked at
+pub alone_have : (o : Object) (name : List ℕ) (class : Class) (number key : ℕ) → IsOnlyDefiner o name class number → (i : ℕ) (s : Symbol) → slice_get o.symbols i ≡ Some s → defines o name class s ≡ true
+    → list_any (has_value i) (record { key = key; value = number } ∷ []) ≡ true
+alone_have o name class number key only i s at defined = rw (only i s at defined, eq-eqb number number refl) refl
+
+-- what is found where there is one entry
+pub alone_found : (os : List Object) (w : Wanted) (start : ℕ) (among : Among) (count : ℕ) (e : Entry) (new : Option Found) (x : Option ℕ) → w.gnu ≡ gnu w.name.now → IsIndexAmong os among → entries_of among.index.now w.gnu ≡ e ∷ [] → count ≡ length os
+    → x ≡ position_of among.positions.now e → new ≡ best_at os w start None x → new ≡ first_in os w.name.now w.class (option_map (λ x. x.now) w.version) (from_member start count)
+alone_found os w start among count e new x hashed is one all at made =
+    let items : e ∷ [] ≡ entries_of among.index.now (gnu w.name.now) = sym one ∙ ap (entries_of among.index.now) hashed in
+    among_done os w start among.positions.now (e ∷ []) 1 count new (omega arith) all
+    (among_more os w start among.positions.now (e ∷ []) 0 e None new x (omega arith) (best_none os w.name.now w.class (option_map (λ x. x.now) w.version) start [] refl) at made)
+    (λ m f found. subst (λ (es : List Entry). list_any (λ (p : Placed). p.value == m) (filter_map (placed among.positions.now) es) ≡ true) (sym items)
+    (among_whole os among w.name.now w.class (option_map (λ x. x.now) w.version) m f is found))
+
+pub or_none : (x : Option Found) → option_or x None ≡ x
+or_none None = refl
+or_none (Some f) = refl
 
 -- where a row stands is a member of the scope
 pub within_by : (os : List Object) (among : Among) (row m : ℕ) (x : Option ℕ) → IsIndexAmong os among → x ≡ position_in (slice_get among.positions.now row) → x ≡ Some m → m < length os

@@ -2,44 +2,64 @@
 use Rattle.std.proofs.Common.{◌≡◌, ℕ, zero, suc, ◌+◌, ◌-◌, ◌*◌, ◌%◌, ◌^◌, ◌<◌, ◌≤◌, Bool, true, false, cond, List, [], ◌∷◌, ◌++◌, length, take, drop, get_or, Option, Some, None, refl, sym, ap, ◌∙◌, subst, arith, append_assoc, inl, inr}
 use Rattle.std.specs.Prelude.{nat_lt, ◌==◌, fold, IfSome}
 use Rattle.std.specs.Option.{option_to_list}
-use Rattle.std.specs.List.{filter, filter_map}
+use Rattle.std.specs.List.{filter, cons_option}
 use Rattle.std.specs.List.{All, AllWithin}
 use Rattle.std.specs.List.Sorted.{IsPartitionPoint, IsNonDecreasingBy}
 use Rattle.std.proofs.lemmas.Bool.{cases_Bool, eq-eqb, ne_eqb, ltb-true, ltb-false, le-ltb, lt-ltb}
 use Rattle.std.proofs.lemmas.Nat.{mod_below, mul-mod_first}
-use Rattle.std.proofs.lemmas.List.{take_more, take-append-drop, append-nil, length-take, length-drop, get_or-take, get_or-drop, get_or_default}
-use Rattle.std.proofs.lemmas.List.Elements.{filter-append, filter_map-append}
+use Rattle.std.proofs.lemmas.List.{at_drop_more, at_drop_all, take-append-drop, append-nil, length-take, length-drop, get_or-take, get_or-drop, get_or_default}
+use Rattle.std.proofs.lemmas.List.Elements.{All-nil, filter-append}
 use Rattle.pl_sym.specs.declared.symbol.Symbol.{Symbol}
 use Rattle.pl_hash.specs.Hash.{gnu, gnu_step}
 use Rattle.pl_object.specs.declared.object.Object.{Object}
-use Rattle.pl_scope.specs.Index.{entry_of, entries_of, IsBehind, IsFirst}
+use Rattle.pl_scope.specs.Index.{entry_of, entries_from, entries_of, IsBehind, IsFirst}
 use Rattle.pl_scope.specs.ShortIndex.{mixed}
 use Rattle.pl_scope.specs.declared.index.Entry.{Entry}
 
 -- ---- the definers of an object
 
--- a symbol more of an object, of which nothing or one entry is made
-one_made : (o : Object) (m : ℕ) (s : Symbol) (x : Option Entry) → entry_of o m s ≡ x → filter_map (entry_of o m) (s ∷ []) ≡ option_to_list x
-one_made o m s None is = rw is refl
-one_made o m s (Some e) is = rw is refl
+cons_is : (x : Option Entry) (es : List Entry) → cons_option x es ≡ option_to_list x ++ es
+cons_is None es = refl
+cons_is (Some e) es = refl
 
-made_more : (o : Object) (m : ℕ) (ss : List Symbol) (i : ℕ) (d : Symbol) (old front new : List Entry) (x : Option Entry) → i < length ss → x ≡ entry_of o m (get_or ss i d) → new ≡ front ++ option_to_list x
-    → front ≡ old ++ filter_map (entry_of o m) (take i ss) → new ≡ old ++ filter_map (entry_of o m) (take (i + 1) ss)
-made_more o m ss i d old front new x lt made more so_far =
-    let before = filter_map (entry_of o m) (take i ss) in
-    let one = ap (filter_map (entry_of o m)) (take_more ss i d lt) ∙ filter_map-append (entry_of o m) (take i ss) (get_or ss i d ∷ []) in
-    more
-    ∙ ap (λ (es : List Entry). es ++ option_to_list x) so_far
-    ∙ append_assoc old before (option_to_list x)
-    ∙ ap (λ (es : List Entry). old ++ (before ++ es)) (sym (one_made o m (get_or ss i d) x (sym made)))
-    ∙ ap (λ (es : List Entry). old ++ es) (sym one)
+-- a symbol more of an object, of which nothing or one entry is made
+entries_more : (o : Object) (m : ℕ) (ss : List Symbol) (i : ℕ) (d : Symbol) (front new whole : List Entry) (x : Option Entry) → i < length ss → x ≡ entry_of o m i (get_or ss i d) → new ≡ front ++ option_to_list x
+    → front ++ entries_from o m i (drop i ss) ≡ whole → new ++ entries_from o m (i + 1) (drop (i + 1) ss) ≡ whole
+unfolding entries_from
+entries_more o m ss i d front new whole x lt made more so_far =
+    let rest = entries_from o m (i + 1) (drop (i + 1) ss) in
+    let step : entries_from o m i (drop i ss) ≡ option_to_list x ++ rest =
+    at_drop_more (entries_from o m i) ss i d lt ∙ ap (λ (y : Option Entry). cons_option y rest) (sym made) ∙ cons_is x rest in
+    ap (λ (xs : List Entry). xs ++ rest) more ∙ append_assoc front (option_to_list x) rest ∙ ap (λ (xs : List Entry). front ++ xs) (sym step) ∙ so_far
+
+entries_done : (o : Object) (m : ℕ) (ss : List Symbol) (i : ℕ) (front whole : List Entry) → length ss ≤ i → front ++ entries_from o m i (drop i ss) ≡ whole → front ≡ whole
+unfolding entries_from
+entries_done o m ss i front whole le so_far = sym (append-nil front) ∙ ap (λ (xs : List Entry). front ++ xs) (sym (at_drop_all (entries_from o m i) ss i le)) ∙ so_far
 
 -- the same, where the symbols are said otherwise
-pub made_more_of : (o : Object) (m : ℕ) (items : List Symbol) (i : ℕ) (d : Symbol) (old front new : List Entry) (x : Option Entry) → items ≡ o.symbols → i < length items → x ≡ entry_of o m (get_or items i d) → new ≡ front ++ option_to_list x
-    → front ≡ old ++ filter_map (entry_of o m) (take i o.symbols) → new ≡ old ++ filter_map (entry_of o m) (take (i + 1) o.symbols)
-made_more_of o m items i d old front new x same lt made more so_far =
-    subst (λ (ss : List Symbol). new ≡ old ++ filter_map (entry_of o m) (take (i + 1) ss)) same
-    (made_more o m items i d old front new x lt made more (subst (λ (ss : List Symbol). front ≡ old ++ filter_map (entry_of o m) (take i ss)) (sym same) so_far))
+pub entries_more_of : (o : Object) (m : ℕ) (items : List Symbol) (i : ℕ) (d : Symbol) (front new whole : List Entry) (x : Option Entry) → items ≡ o.symbols → i < length items → x ≡ entry_of o m i (get_or items i d) → new ≡ front ++ option_to_list x
+    → front ++ entries_from o m i (drop i o.symbols) ≡ whole → new ++ entries_from o m (i + 1) (drop (i + 1) o.symbols) ≡ whole
+entries_more_of o m items i d front new whole x same lt made more so_far =
+    subst (λ (ss : List Symbol). new ++ entries_from o m (i + 1) (drop (i + 1) ss) ≡ whole) same
+    (entries_more o m items i d front new whole x lt made more (subst (λ (ss : List Symbol). front ++ entries_from o m i (drop i ss) ≡ whole) (sym same) so_far))
+
+pub entries_done_of : (o : Object) (m : ℕ) (items : List Symbol) (i : ℕ) (front whole : List Entry) → items ≡ o.symbols → length items ≤ i → front ++ entries_from o m i (drop i o.symbols) ≡ whole → front ≡ whole
+entries_done_of o m items i front whole same le so_far =
+    entries_done o m items i front whole le (subst (λ (ss : List Symbol). front ++ entries_from o m i (drop i ss) ≡ whole) (sym same) so_far)
+
+-- what holds of the entry of each symbol holds of all
+all_cons : (p : Entry → Type 0) (e : Entry) (es : List Entry) → p e → All p es → All p (e ∷ es)
+all_cons p e es here rest zero d lt = here
+all_cons p e es here rest (suc k) d lt = rest k d (omega (arith, lt))
+
+all_more : (p : Entry → Type 0) (x : Option Entry) (es : List Entry) → IfSome x p → All p es → All p (cons_option x es)
+all_more p None es here rest = rest
+all_more p (Some e) es here rest = all_cons p e es here rest
+
+pub made_all : (p : Entry → Type 0) (o : Object) (m i : ℕ) (ss : List Symbol) → ((j : ℕ) (s : Symbol) → IfSome (entry_of o m j s) p) → All p (entries_from o m i ss)
+unfolding entries_from
+made_all p o m i [] each = All-nil p
+made_all p o m i (s ∷ ss) each = all_more p (entry_of o m i s) (entries_from o m (i + 1) ss) (each i s) (made_all p o m (i + 1) ss each)
 
 step_small : (hash byte : ℕ) → gnu_step hash byte < 2 ^ 32
 unfolding gnu_step
@@ -53,13 +73,13 @@ pub gnu_small : (name : List ℕ) → gnu name < 4294967296
 unfolding gnu
 gnu_small name = hashed_small 5381 name (omega arith)
 
-pub made_small : (m : ℕ) (s : Symbol) (b : Bool) → IfSome (cond b (Some (record { hash = gnu s.name; member = m })) None) (λ (e : Entry). e.hash < 4294967296)
-made_small m s true = gnu_small s.name
-made_small m s false = tt
+pub made_small : (m j : ℕ) (s : Symbol) (b : Bool) → IfSome (cond b (Some (record { hash = gnu s.name; member = m; symbol = j })) None) (λ (e : Entry). e.hash < 4294967296)
+made_small m j s true = gnu_small s.name
+made_small m j s false = tt
 
-pub made_within : (o : Object) (m n : ℕ) (s : Symbol) (b : Bool) → m < n → IfSome (cond b (Some (record { hash = gnu s.name; member = m })) None) (λ (e : Entry). e.member < n)
-made_within o m n s true lt = lt
-made_within o m n s false lt = tt
+pub made_within : (m n j : ℕ) (s : Symbol) (b : Bool) → m < n → IfSome (cond b (Some (record { hash = gnu s.name; member = m; symbol = j })) None) (λ (e : Entry). e.member < n)
+made_within m n j s true lt = lt
+made_within m n j s false lt = tt
 
 -- ---- mixed hashes
 
@@ -85,7 +105,7 @@ module _ (es : List Entry) (h i j : ℕ)
     | inr le ↦ ltb-false j i le
     | inl lt ↦
         let less : j < i = ltb-true j i lt in
-        let d : Entry = record { hash = 0; member = 0 } in
+        let d : Entry = record { hash = 0; member = 0; symbol = 0 } in
         let before = first.0 j d (omega arith) less in
         let after = last.1 j d (omega arith) (omega arith) in
         absurd (omega (arith, ltb-true (mixed (get_or es j d).hash) h before, ltb-false (mixed (get_or es j d).hash) (h + 1) after))

@@ -1,9 +1,11 @@
 -- A search for a name among the definers of an object.
-use Rattle.std.specs.Prelude.{◌≡◌, ℕ, Bool, true, false, List, map, slice_get, Option, Some, None, IsSome}
+use Rattle.std.specs.Prelude.{◌≡◌, ⊤, ℕ, Bool, true, false, List, map, slice_get, Option, Some, None, IsSome}
+use Rattle.std.specs.Borrow.{Bor}
 use Rattle.std.specs.List.{list_any}
 use Rattle.std.specs.List.Sorted.{IsNonDecreasingBy}
 use Rattle.pl_elf.specs.Kinds.{is_program}
 use Rattle.pl_object.specs.SymbolClauses.{version_name}
+use Rattle.pl_object.specs.declared.object.Object.{Object}
 use Rattle.pl_sym.specs.Definers.{is_definer}
 use Rattle.pl_sym.specs.declared.class.Class.TheVariants.{Other}
 use Rattle.pl_sym.specs.declared.symbol.Symbol.{Symbol}
@@ -21,6 +23,7 @@ use Rattle.pl_scope.specs.declared.block.Place.TheVariants as places
 use Rattle.pl_scope.specs.declared.definers.Definers.{Definers}
 use Rattle.pl_scope.specs.declared.entries.Entry.{Entry}
 use Rattle.pl_scope.specs.declared.probe.Pick.{Pick}
+use Rattle.pl_scope.specs.declared.version_index.VersionIndex.{VersionIndex}
 
 -- whether a step takes the symbol of an index
 abbrev pub takes : Block → Pick → ℕ → Bool
@@ -36,7 +39,8 @@ end_of_name key = pair key VERSYM_HIDDEN
 
 -- the lists of the object's definers, the key of the name, and keys of the names of the definers' versions
 pub record AreLists (b : Block) (l : Lists) : Type 0 where
-  pub definers : AreDefiners l.numbers.now b.versions.now b.object.now l.definers.now
+  pub versions : IsVersionIndex b.object.now.versions l.versions.now
+  pub definers : AreDefiners l.numbers.now l.versions.now b.object.now l.definers.now
   pub keyed : key_of l.numbers.now b.name.now ≡ Some l.key
   pub named : (i : ℕ) (s : Symbol) (version : List ℕ) → slice_get b.object.now.symbols i ≡ Some s → is_definer s Other (is_program b.object.now.kind) ≡ true → version_name b.object.now.versions s.version ≡ Some version → IsSome (key_of l.numbers.now version)
 
@@ -49,9 +53,14 @@ abbrev pub IsPlace : Block → Place → Type 0
 IsPlace b (places.Lists lists) = AreLists b lists
 IsPlace b (places.Among among) = HaveName b among.now
 
+-- an object's versions, where there is an index of versions
+abbrev pub AreVersionsOf : Object → Option (Bor VersionIndex) → Type 0
+AreVersionsOf o None = ⊤
+AreVersionsOf o (Some versions) = IsVersionIndex o.versions versions.now
+
 -- the object's versions, and where the definers of the name are
 pub record IsBlock (b : Block) : Type 0 where
-  pub versions : IsVersionIndex b.object.now.versions b.versions.now
+  pub versions : AreVersionsOf b.object.now b.versions
   pub place : IsPlace b b.place
 
 -- lists are in the order of their keys

@@ -1,11 +1,14 @@
 -- The definers of the objects of a folder by the hashes of their names, and a scope of some of these objects.
-use Rattle.std.specs.Prelude.{◌≡◌, ◌≤◌, ◌<◌, ⊤, ◌+◌, ◌*◌, ℕ, Bool, true, ◌&&◌, ◌==◌, List, [], ◌∷◌, ◌++◌, length, slice_get, Option, Some, None}
-use Rattle.std.specs.List.{All, filter_map, list_any}
+use Rattle.std.specs.Prelude.{◌≡◌, ◌≤◌, ◌<◌, ⊤, ◌+◌, ◌*◌, ℕ, Bool, true, false, ◌&&◌, ◌==◌, List, [], ◌∷◌, ◌++◌, length, slice_get, Option, Some, None}
+use Rattle.std.specs.List.{All, list_any}
+use Rattle.std.specs.List.Sorted.{IsPermutation}
 use Rattle.std.specs.Option.{option_map}
 use Rattle.pl_elf.specs.Kinds.{is_program}
 use Rattle.pl_hash.specs.Hash.{gnu}
 use Rattle.pl_object.specs.declared.object.Object.{Object}
-use Rattle.pl_scope.specs.Index.{entries_of, entry_of, is_entry}
+use Rattle.pl_scope.specs.Index.{entries_in, entries_of}
+use Rattle.pl_scope.specs.Entries.{has_value}
+use Rattle.pl_scope.specs.Matching.{defines}
 use Rattle.pl_scope.specs.ScopeIndex.{HasOwn, IsIndex, best_of}
 use Rattle.pl_scope.specs.ShortIndex.{HasShort, IsShortIndex, mixed}
 use Rattle.pl_scope.specs.declared.entries.Entry.{Entry as Placed}
@@ -17,6 +20,7 @@ use Rattle.pl_scope.specs.declared.lookup.Way.TheVariants as ways
 use Rattle.pl_scope.specs.declared.lookup.Way.TheVariants.{InOrder, Short, Indexed, InLists}
 use Rattle.pl_scope.specs.declared.wanted.Wanted.{Wanted}
 use Rattle.pl_sym.specs.Definers.{is_definer}
+use Rattle.pl_sym.specs.declared.class.Class.{Class}
 use Rattle.pl_sym.specs.declared.class.Class.TheVariants.{Other}
 use Rattle.pl_sym.specs.declared.symbol.Symbol.{Symbol}
 
@@ -25,7 +29,7 @@ use Rattle.pl_sym.specs.declared.symbol.Symbol.{Symbol}
 -- the definers of the object of a row, which may have none
 abbrev pub entries_at : ℕ → Option Object → List Entry
 entries_at row None = []
-entries_at row (Some o) = filter_map (entry_of o row) o.symbols
+entries_at row (Some o) = entries_in o row
 
 -- those of the objects of rows from one on
 unfoldable pub all_from : ℕ → List (Option Object) → List Entry
@@ -39,16 +43,13 @@ all_entries objects = all_from 0 objects
 abbrev pub order_of : Entry → ℕ
 order_of e = mixed e.hash * 4294967296 + e.member
 
-abbrev pub is_same : Entry → Entry → Bool
-is_same x y = x.hash == y.hash && x.member == y.member
-
 -- the number of a row has 32 bits
 abbrev pub AreSmallRows : List Entry → Type 0
 AreSmallRows es = All (λ e. e.member < 4294967296) es
 
--- each definer of each object is there, under its name's hash, and nothing else is
+-- each definer of each object is there once, under its name's hash, and nothing else is
 abbrev pub IsFolderIndex : List (Option Object) → List Entry → Type 0
-IsFolderIndex objects index = (hash row : ℕ) → list_any (is_entry hash row) index ≡ list_any (is_entry hash row) (all_entries objects)
+IsFolderIndex objects index = IsPermutation (all_entries objects) index
 
 -- a name's hash has one entry at most
 abbrev pub HasOneEntryAtMost : List Entry → List ℕ → Type 0
@@ -68,11 +69,32 @@ position_of positions e = position_in (slice_get positions e.member)
 abbrev pub placed : List (Option ℕ) → Entry → Option Placed
 placed positions e = option_map (λ member. record { key = e.hash; value = member }) (position_of positions e)
 
--- rows stand at members, and each definer of each member has an entry under its name's hash whose row stands at that member
+-- this member is where something stands, if it stands anywhere
+abbrev pub is_at : Option ℕ → ℕ → Bool
+is_at None member = false
+is_at (Some other) member = other == member
+
+-- an entry of a symbol whose row stands at a member
+abbrev pub is_placed : List (Option ℕ) → ℕ → ℕ → Entry → Bool
+is_placed positions member number e = is_at (position_of positions e) member && e.symbol == number
+
+-- rows stand at members, and each definer of each member has an entry of its own under its name's hash whose row stands at that member
 pub record IsIndexAmong (objects : List Object) (among : Among) : Type 0 where
   pub within : (row member : ℕ) → position_in (slice_get among.positions.now row) ≡ Some member → member < length objects
   pub whole : (m i : ℕ) (o : Object) (s : Symbol) → slice_get objects m ≡ Some o → slice_get o.symbols i ≡ Some s → is_definer s Other (is_program o.kind) ≡ true
-      → list_any (λ e. e.value == m) (filter_map (placed among.positions.now) (entries_of among.index.now (gnu s.name))) ≡ true
+      → list_any (is_placed among.positions.now m i) (entries_of among.index.now (gnu s.name)) ≡ true
+
+-- no other symbol of an object than that of a number defines a name for references of a class
+abbrev pub IsOnlyDefiner : Object → List ℕ → Class → ℕ → Type 0
+IsOnlyDefiner o name class number = (i : ℕ) (s : Symbol) → slice_get o.symbols i ≡ Some s → defines o name class s ≡ true → i ≡ number
+
+-- each definer of a wanted name is among some
+abbrev pub HaveDefiners : Object → Wanted → List Placed → Type 0
+HaveDefiners o w es = (i : ℕ) (s : Symbol) → slice_get o.symbols i ≡ Some s → defines o w.name.now w.class s ≡ true → list_any (has_value i) es ≡ true
+
+-- no other symbol than that of a number defines a name, in the object of a member
+abbrev pub IsOnlyIn : List Object → ℕ → List ℕ → Class → ℕ → Type 0
+IsOnlyIn objects member name class number = (o : Object) → slice_get objects member ≡ Some o → IsOnlyDefiner o name class number
 
 -- what is found with one row more
 abbrev pub best_at : List Object → Wanted → ℕ → Option Found → Option ℕ → Option Found

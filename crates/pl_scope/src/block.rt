@@ -16,7 +16,7 @@ use crate::numbers::Numbers;
 use crate::probe::{Pick, with_picked};
 use crate::version_index::VersionIndex;
 use pl_hash::gnu_hash;
-use pl_object::Object;
+use pl_object::{Object, version_name};
 use pl_sym::{Class, Symbol};
 use pl_ver::constants::{VER_NDX_GLOBAL, VER_NDX_LOCAL, VERSYM_HIDDEN};
 
@@ -28,6 +28,9 @@ pub struct Lists<'b, 'a> {
 
     pub definers: &'b Definers,
     pub numbers: &'b Numbers<'a>,
+
+    /// The versions of the object.
+    pub versions: &'b VersionIndex<'a>,
 }
 
 /// Where the definers of a name are.
@@ -46,18 +49,22 @@ pub struct Block<'b, 'a> {
     pub object: &'b Object,
     pub name: &'b [u8],
     pub class: Class,
-    pub versions: &'b VersionIndex<'a>,
+    /// An index of the object's versions, if there is one.
+    pub versions: Option<&'b VersionIndex<'a>>,
 
     /// Where the definers of the name are.
     pub place: Place<'b, 'a>,
 }
 
 /// The name of the version that a version word of the object stands for.
-fn version_of_word<'a>(block: &Block<'_, 'a>, word: u16) -> Option<&'a [u8]>
+fn version_of_word<'b>(block: &Block<'b, '_>, word: u16) -> Option<&'b [u8]>
     requires { spec.IsBlock block.now }
     ensures { option_map (λ x. x.now) result ≡ version_name block.now.object.now.versions word }
 {
-    block.versions.name_of(word)
+    match block.versions {
+        None => version_name(&block.object.versions, word),
+        Some(versions) => versions.name_of(word),
+    }
 }
 
 /// Whether a symbol's version has this name.

@@ -1,7 +1,6 @@
 // The definers of the objects of a folder, by the hashes of their names.
 ghost use Rattle.std.specs.Prelude.{◌≡◌, ◌<◌, ◌^◌, IfOk, OnOk, ◌++◌, length, map};
 ghost use Rattle.std.specs.Bool.{OnFalse};
-ghost use Rattle.std.specs.List.{dedup};
 ghost use Rattle.std.specs.List.Sorted.{IsPermutation};
 ghost use Rattle.std.specs.Option.{option_map};
 ghost use Rattle.pl_scope.specs.Index as index;
@@ -16,7 +15,7 @@ use pl_object::Object;
 use std::alloc::{AllocError, Global};
 use std::marker::Model;
 
-/// The definers of the objects of a folder: for each hash of a name in a GNU table the rows of the objects that define a name of that hash. Contracts see it as the list of its entries.
+/// The definers of the objects of a folder: for each hash of a name in a GNU table the definers whose names have that hash, each with the row of its object and the number of its symbol. Contracts see it as the list of its entries.
 #[derive(Drop)]
 pub struct Index {
     entries: Vec<Entry>,
@@ -88,19 +87,6 @@ fn sort_rows(entries: &mut Vec<Entry>)
     entries.sort_unstable_by_key(|entry| order_of(entry));
 }
 
-fn is_same(entry: &Entry, other: &Entry) -> bool
-    ensures { result ≡ spec.is_same entry.now other.now }
-{
-    entry.hash == other.hash && entry.member == other.member
-}
-
-/// Drops each entry that is the one before it.
-fn drop_repeats(entries: &mut Vec<Entry>)
-    ensures { entries.new.items ≡ dedup spec.is_same entries.old.items }
-{
-    entries.dedup_by(|entry, other| is_same(entry, other));
-}
-
 impl Index {
     /// The index of the objects of a folder; a row may have none. The time grows as `n log n` with their symbols. It fails only for want of memory, which comes before 2^32 rows.
     pub fn of(alloc: Global, objects: &[Option<&Object>]) -> Result<Index, NoMemory>
@@ -111,7 +97,6 @@ impl Index {
         }
         let mut entries = all_entries(alloc, objects)?;
         sort_rows(&mut entries);
-        drop_repeats(&mut entries);
         entries.shrink_to_fit();
         let starts = starts_of(alloc, &entries)?;
         Ok(Index { entries, starts })
@@ -124,7 +109,7 @@ impl Index {
         under(&self.entries, &self.starts, hash)
     }
 
-    /// Whether two objects may define a name; where it is false, one at most does.
+    /// Whether objects may have two definers of a name; where it is false, they have one at most.
     pub fn may_share(&self, name: &[u8]) -> bool
         ensures { OnFalse result (spec.HasOneEntryAtMost self.now name.now) }
     {

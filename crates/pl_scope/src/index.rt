@@ -1,7 +1,6 @@
 // The definers of objects, by the hashes of their names.
-ghost use Rattle.std.specs.Prelude.{◌≡◌, ◌≤◌, ◌++◌, true, false, nat_lt, length, IfSome, OnOk};
+ghost use Rattle.std.specs.Prelude.{◌≡◌, ◌≤◌, ◌<◌, ◌^◌, ◌++◌, true, false, nat_lt, length, IfSome, OnOk};
 ghost use Rattle.std.specs.Bool.{OnTrue};
-ghost use Rattle.std.specs.List.{filter_map};
 ghost use Rattle.std.specs.List.Sorted.{IsPartitionPoint};
 ghost use Rattle.pl_scope.specs.Index as spec;
 ghost use Rattle.pl_scope.specs.ShortIndex as short;
@@ -16,35 +15,43 @@ use std::alloc::{AllocError, Global};
 /// So many entries are looked at before the list is halved.
 const STEPS: usize = 12;
 
-/// A member has a definer under a hash.
+/// A definer of a member, under the hash of its name.
 #[derive(Clone, Copy)]
 pub struct Entry {
     /// The hash of the definer's name in a GNU table.
     pub hash: u32,
 
     pub member: u32,
+
+    /// The number of the definer among the member's symbols.
+    pub symbol: u32,
 }
 
-fn entry_of(object: &Object, member: u32, symbol: &Symbol) -> Option<Entry>
-    ensures { result ≡ spec.entry_of object.now member symbol.now }
+fn entry_of(object: &Object, member: u32, number: u32, symbol: &Symbol) -> Option<Entry>
+    ensures { result ≡ spec.entry_of object.now member number symbol.now }
 {
     if is_definer(symbol, Class::Other, object.kind.is_program()) {
         Some(Entry {
             hash: gnu_hash(symbol.name.as_slice()),
             member,
+            symbol: number,
         })
     } else {
         None
     }
 }
 
-/// Adds the definers of a member.
+/// Adds the definers of a member. It fails only for want of memory, which comes before 2^32 symbols.
 pub fn add_entries(entries: &mut Vec<Entry>, object: &Object, member: u32) -> Result<(), AllocError>
     ensures { OnOk result (entries.new.items ≡ entries.old.items
-        ++ filter_map (spec.entry_of object.now member) object.now.symbols) }
+        ++ spec.entries_in object.now member) }
 {
-    for symbol in object.symbols.as_slice() {
-        if let Some(entry) = entry_of(object, member, symbol) {
+    let symbols = object.symbols.as_slice();
+    if symbols.len() >= 4_294_967_296 {
+        return Err(AllocError);
+    }
+    for number in 0..symbols.len() {
+        if let Some(entry) = entry_of(object, member, number as u32, &symbols[number]) {
             entries.push(entry)?;
         }
     }

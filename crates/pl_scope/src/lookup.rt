@@ -1,5 +1,5 @@
 // The definer that a reference finds.
-ghost use Rattle.std.specs.Prelude.{◌≡◌, ◌<◌, ◌==◌, ◌&&◌, length, not, slice_get, vec_len, IfSome, Some};
+ghost use Rattle.std.specs.Prelude.{◌≡◌, ◌<◌, ◌==◌, ◌&&◌, length, not, slice_get, vec_len, IfSome, Some, None, [], ◌∷◌};
 ghost use Rattle.std.specs.List.{list_any};
 ghost use Rattle.std.specs.Option.{ForSome, option_map};
 ghost use Rattle.pl_object.specs.SymbolClauses.{version_name};
@@ -8,7 +8,9 @@ ghost use Rattle.pl_scope.specs.Scope.{objects, IsFit, IsReference, IsSymbol};
 ghost use Rattle.pl_scope.specs.Definers as pairs;
 ghost use Rattle.pl_scope.specs.Entries as entries;
 ghost use Rattle.pl_scope.specs.Probing as probing;
+ghost use Rattle.pl_scope.specs.Block as block;
 ghost use Rattle.pl_scope.specs.Folder as folder;
+ghost use Rattle.pl_scope.specs.Index as names;
 ghost use Rattle.pl_scope.specs.ScopeIndex as index;
 ghost use Rattle.pl_scope.specs.ShortIndex as short;
 ghost use Rattle.pl_scope.specs.Finds as spec;
@@ -17,12 +19,14 @@ use crate::block::{Block, Lists, Place, matching_in_block};
 use crate::definers::pair;
 use crate::entries::{Entry, under};
 use crate::folder::{Among, position_of};
+use crate::index::Entry as FolderEntry;
 use crate::matching::{defines, matching};
 use crate::probe::matching_by_table;
 use crate::scope_index::{ScopeIndex, members_under, own_at};
 use crate::short_index::{
     ShortIndex, UnderName, member_of, mixed, of_member, under_hash, versions_at,
 };
+use crate::version_index::VersionIndex;
 use crate::wanted::{Wanted, wanted_by};
 use crate::{Found, Reference, Scope};
 use pl_elf::constants::R_X86_64_COPY;
@@ -152,11 +156,12 @@ fn matching_by_index(
         object,
         name: wanted.name,
         class: wanted.class,
-        versions: &own.versions,
+        versions: Some(&own.versions),
         place: Place::Lists(Lists {
             key,
             definers: &own.definers,
             numbers: &definers.numbers,
+            versions: &own.versions,
         }),
     };
     matching_in_block(&block, wanted.version)
@@ -181,7 +186,7 @@ fn matching_among(
         object,
         name: wanted.name,
         class: wanted.class,
-        versions,
+        versions: Some(versions),
         place: Place::Among(among),
     };
     matching_in_block(&block, wanted.version)
@@ -406,7 +411,143 @@ fn best_at(
     }
 }
 
-/// The matching definer of the first member from one on that has one, where only the members are asked that an index of the folder has under the name's hash; where that has more rows than the scope has members, the members one after the other.
+/// The index of an object's symbol that matches, among some symbols that have all definers of the name.
+fn matching_listed(
+    object: &Object,
+    wanted: &Wanted<'_>,
+    versions: Option<&VersionIndex<'_>>,
+    among: &[Entry],
+) -> Option<u32>
+    requires versions { block.AreVersionsOf object.now versions }
+    requires among { folder.HaveDefiners object.now wanted.now among.now }
+    ensures { result ≡ probing.matching_for object.now wanted.now }
+{
+    let block = Block {
+        object,
+        name: wanted.name,
+        class: wanted.class,
+        versions,
+        place: Place::Among(among),
+    };
+    matching_in_block(&block, wanted.version)
+}
+
+/// The index of an object's symbol that matches, where no other than one can.
+fn matching_alone(object: &Object, wanted: &Wanted<'_>, symbol: u32) -> Option<u32>
+    requires { folder.IsOnlyDefiner object.now wanted.now.name.now wanted.now.class symbol }
+    ensures { result ≡ probing.matching_for object.now wanted.now }
+{
+    let among = [Entry {
+        key: 0,
+        value: symbol,
+    }];
+    matching_listed(object, wanted, None, &among)
+}
+
+/// The matching definer of a member, where no other symbol of it than one can match.
+#[tactic(auto, unfolding(crate::specs::Finds::in_member))]
+fn in_member_alone(
+    scope: &Scope<'_>,
+    wanted: &Wanted<'_>,
+    member: u32,
+    symbol: u32,
+) -> Option<Found>
+    requires within { member < length scope.now }
+    requires alone { folder.IsOnlyIn (objects scope.now) member wanted.now.name.now
+        wanted.now.class symbol }
+    ensures { result ≡ spec.in_member (objects scope.now) wanted.now.name.now wanted.now.class
+        (option_map (λ x. x.now) wanted.now.version) member }
+{
+    let object = scope.object(member);
+    found_in(member, matching_alone(object, wanted, symbol))
+}
+
+/// The matching definer of a member from the first on, where no other symbol of it than one can match.
+fn best_alone(
+    scope: &Scope<'_>,
+    wanted: &Wanted<'_>,
+    start: u32,
+    member: u32,
+    symbol: u32,
+) -> Option<Found>
+    requires within { member < length scope.now }
+    requires alone { folder.IsOnlyIn (objects scope.now) member wanted.now.name.now
+        wanted.now.class symbol }
+    ensures { result ≡ index.best_of (objects scope.now) wanted.now.name.now wanted.now.class
+        (option_map (λ x. x.now) wanted.now.version) start None member }
+{
+    if is_better(start, None, member) {
+        in_member_alone(scope, wanted, member, symbol).or(None)
+    } else {
+        None
+    }
+}
+
+/// The matching definer of the member where the only entry under the name's hash stands, if it stands at one from the first on.
+fn best_at_alone(
+    scope: &Scope<'_>,
+    wanted: &Wanted<'_>,
+    start: u32,
+    member: Option<u32>,
+    symbol: u32,
+) -> Option<Found>
+    requires within { ForSome member (λ m. m < length scope.now) }
+    requires alone { ForSome member (λ m. folder.IsOnlyIn (objects scope.now) m
+        wanted.now.name.now wanted.now.class symbol) }
+    ensures { result ≡ folder.best_at (objects scope.now) wanted.now start None member }
+{
+    match member {
+        None => None,
+        Some(member) => best_alone(scope, wanted, start, member, symbol),
+    }
+}
+
+/// The matching definer of the first member from one on that has one, where an index of the folder has one entry under the name's hash: its symbol alone is looked at.
+fn first_alone(
+    scope: &Scope<'_>,
+    wanted: &Wanted<'_>,
+    start: u32,
+    among: &Among<'_>,
+    entry: &FolderEntry,
+) -> Option<Found>
+    requires wanted { probing.IsWanted wanted.now }
+    requires index { folder.IsIndexAmong (objects scope.now) among.now }
+    requires alone { names.entries_of among.now.index.now wanted.now.gnu ≡ entry.now ∷ [] }
+    ensures { result ≡ spec.first_match scope.now wanted.now start }
+{
+    best_at_alone(
+        scope,
+        wanted,
+        start,
+        position_of(among, entry),
+        entry.symbol,
+    )
+}
+
+/// The matching definer of the first member from one on that has one, where only the members are asked that an index of the folder has under the name's hash; where that has more entries than the scope has members, the members one after the other.
+fn first_listed(
+    scope: &Scope<'_>,
+    wanted: &Wanted<'_>,
+    start: u32,
+    among: &Among<'_>,
+    entries: &[FolderEntry],
+) -> Option<Found>
+    requires wanted { probing.IsWanted wanted.now }
+    requires index { folder.IsIndexAmong (objects scope.now) among.now }
+    requires entries { entries.now ≡ names.entries_of among.now.index.now wanted.now.gnu }
+    ensures { result ≡ spec.first_match scope.now wanted.now start }
+{
+    if entries.len() > scope.count() as usize {
+        return first_in_order(scope, wanted, start, Way::InOrder);
+    }
+    let mut best = None;
+    for entry in entries {
+        best = best_at(scope, wanted, start, best, position_of(among, entry));
+    }
+    best
+}
+
+/// The matching definer of the first member from one on that has one, by an index of the folder: where it has one entry under the name's hash that symbol alone is looked at, else the members of the entries are asked.
 fn first_among(
     scope: &Scope<'_>,
     wanted: &Wanted<'_>,
@@ -418,14 +559,11 @@ fn first_among(
     ensures { result ≡ spec.first_match scope.now wanted.now start }
 {
     let entries = among.index.entries_of(wanted.gnu);
-    if entries.len() > scope.count() as usize {
-        return first_in_order(scope, wanted, start, Way::InOrder);
+    if entries.len() == 1 {
+        first_alone(scope, wanted, start, among, &entries[0])
+    } else {
+        first_listed(scope, wanted, start, among, entries)
     }
-    let mut best = None;
-    for entry in entries {
-        best = best_at(scope, wanted, start, best, position_of(among, entry));
-    }
-    best
 }
 
 /// The matching definer of the first member from one on that has one.
@@ -587,7 +725,7 @@ pub fn find(scope: &Scope<'_>, reference: Reference) -> Option<Found>
     find_by(scope, reference, Way::InOrder)
 }
 
-/// The symbol that a reference finds in a scope, as `find` gives it, where an index of the folder whose objects the members are tells which of them may have a definer. Those alone are asked; where the index has more rows under the name's hash than the scope has members, all members are, one after the other. No memory is taken.
+/// The symbol that a reference finds in a scope, as `find` gives it, where an index of the folder whose objects the members are tells which of them may have a definer. Those alone are asked; where the hash of the name has one entry, its symbol alone is looked at; where it has more entries than the scope has members, all members are asked, one after the other. No memory is taken.
 pub fn find_among(scope: &Scope<'_>, reference: Reference, among: &Among<'_>) -> Option<Found>
     requires reference { IsReference scope.now reference }
     requires index { folder.IsIndexAmong (objects scope.now) among.now }

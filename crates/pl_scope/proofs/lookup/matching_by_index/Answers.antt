@@ -17,6 +17,7 @@ matching_in_block-requires c =
     record {
       versions = own.named;
       place = record {
+        versions = own.named;
         definers = own.listed;
         keyed = sym c.key_of.ensures ∙ c.in-Some.is;
         named = λ i s version at definer is. version_keyed c.args.definers.now c.args.member c.args.object.now s.version version c.requires.own is;

@@ -4,7 +4,7 @@ use Rattle.std.specs.Option.{option_map}
 use Rattle.pl_scope.specs.Folder.{placed}
 use Rattle.pl_scope.specs.ScopeIndex.{IsBest}
 use Rattle.pl_scope.specs.Scope.{objects}
-use Rattle.pl_scope.proofs.lookup.first_among.Given as goal
+use Rattle.pl_scope.proofs.lookup.first_listed.Given as goal
 
 abbrev pub invariant-loop-entry : goal.invariant-loop-entry
 invariant-loop-entry l =
