@@ -1,10 +1,10 @@
 -- The index of a folder: its entries in order, each once, those of a hash, and the search among the members of a scope.
 use Rattle.std.proofs.Common.{◌≡◌, ℕ, ◌+◌, ◌<◌, ◌≤◌, Bool, true, false, ◌||◌, List, [], ◌∷◌, ◌++◌, length, take, drop, get_or, Option, Some, None, refl, sym, ap, ◌∙◌, subst, arith, append_assoc, inl, inr}
 use Rattle.std.specs.Prelude.{slice_get, ◌==◌}
-use Rattle.std.specs.Option.{option_map, option_or, option_to_list}
+use Rattle.std.specs.Option.{option_map, option_to_list}
 use Rattle.std.specs.List.{All, list_any, filter_map}
 use Rattle.std.specs.List.Sorted.{IsNonDecreasingBy, IsPermutation}
-use Rattle.std.proofs.lemmas.Bool.{cases_Bool, and_parts, or_left, or_right, eqb-true, eq-eqb}
+use Rattle.std.proofs.lemmas.Bool.{cases_Bool, and_parts, or_left, or_right, eqb-true, eq-eqb, false≢true}
 use Rattle.std.proofs.lemmas.List.{take_more, take_all, append-nil, at_drop_more, at_drop_all}
 use Rattle.std.proofs.lemmas.List.Elements.{All-append, All-nil, filter_map-append}
 use Rattle.std.proofs.lemmas.List.Sorted.{All-permutation}
@@ -21,7 +21,7 @@ use Rattle.pl_scope.specs.ShortIndex.{mixed}
 use Rattle.pl_scope.specs.Entries.{has_value}
 use Rattle.pl_scope.specs.Matching.{defines}
 use Rattle.pl_scope.specs.ScopeIndex.{IsBest}
-use Rattle.pl_scope.specs.Folder.{entries_at, all_from, all_entries, order_of, AreSmallRows, IsFolderIndex, position_of, position_in, placed, is_at, is_placed, IsIndexAmong, IsOnlyDefiner, IsOnlyIn, best_at}
+use Rattle.pl_scope.specs.Folder.{entries_at, all_from, all_entries, order_of, AreSmallRows, IsFolderIndex, position_of, position_in, placed, is_at, is_placed, IsIndexAmong, IsOnlyEntry, IsOnlyDefiner, IsOnlyIn, best_at}
 use Rattle.pl_scope.specs.declared.folder.Among.{Among}
 use Rattle.pl_scope.specs.declared.entries.Entry.{Entry as Placed}
 use Rattle.pl_scope.specs.declared.index.Entry.{Entry}
@@ -159,6 +159,10 @@ among_whole os among name class version m f is e =
 
 -- ---- one entry under a hash
 
+or_nothing : (b : Bool) → (b || false) ≡ b
+or_nothing true = refl
+or_nothing false = refl
+
 -- the symbol of the only entry of a hash is the only definer
 pub only_in : (os : List Object) (among : Among) (name : List ℕ) (class : Class) (hash m : ℕ) (e : Entry) → hash ≡ gnu name → IsIndexAmong os among → entries_of among.index.now hash ≡ e ∷ [] → IsOnlyIn os m name class e.symbol
 only_in os among name class hash m e hashed is one = λ o there i s at defined.
@@ -167,10 +171,27 @@ only_in os among name class hash m e hashed is one = λ o there i s at defined.
     let any : list_any (is_placed among.positions.now m i) (e ∷ []) ≡ true = subst (λ (es : List Entry). list_any (is_placed among.positions.now m i) es ≡ true) listed (is.whole m i o s there at n.definer) in
     let here : is_placed among.positions.now m i e ≡ true = sym (or_nothing (is_placed among.positions.now m i e)) ∙ any in
     sym (eqb-true e.symbol i (and_parts (is_at (position_of among.positions.now e) m) (e.symbol == i) here).1)
-  where
-    or_nothing : (b : Bool) → (b || false) ≡ b
-    or_nothing true = refl
-    or_nothing false = refl
+
+-- an entry that stands at a member
+at_member : (x : Option ℕ) (m : ℕ) → is_at x m ≡ true → x ≡ Some m
+at_member None m at = absurd (false≢true at)
+at_member (Some other) m at = ap Some (eqb-true other m at)
+
+only_one : (among : Among) (hash m i : ℕ) (es : List Entry) → entries_of among.index.now hash ≡ es → length es ≤ 1 → list_any (is_placed among.positions.now m i) es ≡ true → IsOnlyEntry among hash m i
+only_one among hash m i [] is few any = absurd (false≢true any)
+only_one among hash m i (e ∷ []) is few any =
+    let here = and_parts (is_at (position_of among.positions.now e) m) (e.symbol == i) (sym (or_nothing (is_placed among.positions.now m i e)) ∙ any) in
+    record { entry = e; only = is; here = at_member (position_of among.positions.now e) m here.0; symbol = eqb-true e.symbol i here.1 }
+only_one among hash m i (e ∷ f ∷ es) is few any = absurd (omega (arith, few))
+
+-- a definer whose hash has one entry at most has the only one
+pub only_entry : (os : List Object) (among : Among) (name : List ℕ) (hash m i : ℕ) (o : Object) (s : Symbol) → hash ≡ gnu name → IsIndexAmong os among → slice_get os m ≡ Some o → slice_get o.symbols i ≡ Some s → defines o name Other s ≡ true
+    → length (entries_of among.index.now hash) ≤ 1 → IsOnlyEntry among hash m i
+only_entry os among name hash m i o s hashed is there at defined few =
+    let n = named_by o name Other s defined in
+    let same : entries_of among.index.now (gnu s.name) ≡ entries_of among.index.now hash = ap (λ (x : List ℕ). entries_of among.index.now (gnu x)) n.named ∙ ap (entries_of among.index.now) (sym hashed) in
+    only_one among hash m i (entries_of among.index.now hash) refl few
+    (subst (λ (es : List Entry). list_any (is_placed among.positions.now m i) es ≡ true) same (is.whole m i o s there at n.definer))
 
 -- that symbol alone is looked at
 pub alone_have : (o : Object) (name : List ℕ) (class : Class) (number key : ℕ) → IsOnlyDefiner o name class number → (i : ℕ) (s : Symbol) → slice_get o.symbols i ≡ Some s → defines o name class s ≡ true
@@ -186,10 +207,6 @@ alone_found os w start among count e new x hashed is one all at made =
     (among_more os w start among.positions.now (e ∷ []) 0 e None new x (omega arith) (best_none os w.name.now w.class (option_map (λ x. x.now) w.version) start [] refl) at made)
     (λ m f found. subst (λ (es : List Entry). list_any (λ (p : Placed). p.value == m) (filter_map (placed among.positions.now) es) ≡ true) (sym items)
     (among_whole os among w.name.now w.class (option_map (λ x. x.now) w.version) m f is found))
-
-pub or_none : (x : Option Found) → option_or x None ≡ x
-or_none None = refl
-or_none (Some f) = refl
 
 -- where a row stands is a member of the scope
 pub within_by : (os : List Object) (among : Among) (row m : ℕ) (x : Option ℕ) → IsIndexAmong os among → x ≡ position_in (slice_get among.positions.now row) → x ≡ Some m → m < length os

@@ -91,7 +91,7 @@ unmixed a small = mul-mod_first (a * 2654435769) 340573321 4294967296 ∙ whole
     whole = omega (arith, small)
 
 -- so mixing is one to one
-mixed_once : (a b : ℕ) → a < 4294967296 → b < 4294967296 → mixed a ≡ mixed b → a ≡ b
+pub mixed_once : (a b : ℕ) → a < 4294967296 → b < 4294967296 → mixed a ≡ mixed b → a ≡ b
 mixed_once a b small_a small_b same = sym (unmixed a small_a) ∙ ap (λ (n : ℕ). n * 340573321 % 4294967296) same ∙ unmixed b small_b
 
 -- ---- the entries of a hash

@@ -21,6 +21,7 @@ pub mod ScopeIndexLaws
 pub mod ShortIndexLaws
 pub mod SortedLaws
 pub mod IndexLaws
+pub mod SharedLaws
 pub mod FolderLaws
 pub mod KeptLaws
 pub mod CanonicalLaws

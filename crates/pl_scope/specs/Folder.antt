@@ -51,9 +51,13 @@ AreSmallRows es = All (λ e. e.member < 4294967296) es
 abbrev pub IsFolderIndex : List (Option Object) → List Entry → Type 0
 IsFolderIndex objects index = IsPermutation (all_entries objects) index
 
+-- a hash has one entry at most
+abbrev pub IsOnce : List Entry → ℕ → Type 0
+IsOnce index hash = length (entries_of index hash) ≤ 1
+
 -- a name's hash has one entry at most
 abbrev pub HasOneEntryAtMost : List Entry → List ℕ → Type 0
-HasOneEntryAtMost index name = length (entries_of index (gnu name)) ≤ 1
+HasOneEntryAtMost index name = IsOnce index (gnu name)
 
 -- ---- a scope of objects of a folder
 
@@ -83,6 +87,13 @@ pub record IsIndexAmong (objects : List Object) (among : Among) : Type 0 where
   pub within : (row member : ℕ) → position_in (slice_get among.positions.now row) ≡ Some member → member < length objects
   pub whole : (m i : ℕ) (o : Object) (s : Symbol) → slice_get objects m ≡ Some o → slice_get o.symbols i ≡ Some s → is_definer s Other (is_program o.kind) ≡ true
       → list_any (is_placed among.positions.now m i) (entries_of among.index.now (gnu s.name)) ≡ true
+
+-- a hash has one entry, that of a symbol whose row stands at a member
+pub record IsOnlyEntry (among : Among) (hash member number : ℕ) : Type 0 where
+  pub entry : Entry
+  pub only : entries_of among.index.now hash ≡ entry ∷ []
+  pub here : position_of among.positions.now entry ≡ Some member
+  pub symbol : entry.symbol ≡ number
 
 -- no other symbol of an object than that of a number defines a name for references of a class
 abbrev pub IsOnlyDefiner : Object → List ℕ → Class → ℕ → Type 0

@@ -14,5 +14,6 @@ pub mod Index
 pub mod ScopeIndex
 pub mod ShortIndex
 pub mod Sorted
+pub mod Shared
 pub mod Folder
 pub mod Kept

@@ -7,6 +7,7 @@ ghost use Rattle.pl_scope.specs.Index as index;
 ghost use Rattle.pl_scope.specs.Folder as spec;
 
 use crate::index::{Entry, add_entries, starts_of, under};
+use crate::shared::Shared;
 use crate::short_index::mixed;
 use crate::starts::Starts;
 use pl_hash::gnu_hash;
@@ -22,18 +23,21 @@ pub struct Index {
 
     /// Where searches of the entries begin.
     starts: Starts,
+
+    /// Which hashes may have more entries than one.
+    shared: Shared,
 }
 
 impl Model for Index {
     ghost use Rattle.std.specs.Prelude.{List};
-    ghost use Rattle.pl_scope.specs.Index.{IsInOrder};
+    ghost use Rattle.pl_scope.specs.Shared.{IsSearchable};
     ghost use Rattle.pl_scope.specs.declared.index.Entry.{Entry};
 
     ghost Value = { List Entry };
 
     ghost view = { λ i. i.entries.items };
 
-    ghost invariant = { λ i. IsInOrder i.entries.items };
+    ghost invariant = { λ i. IsSearchable i.entries.items i.shared.flags.items };
 }
 
 /// An index of a folder, and where the objects of its rows stand in a scope.
@@ -99,7 +103,12 @@ impl Index {
         sort_rows(&mut entries);
         entries.shrink_to_fit();
         let starts = starts_of(alloc, &entries)?;
-        Ok(Index { entries, starts })
+        let shared = Shared::of(alloc, &entries)?;
+        Ok(Index {
+            entries,
+            starts,
+            shared,
+        })
     }
 
     /// The entries of a hash, in the order of their rows.
@@ -109,11 +118,19 @@ impl Index {
         under(&self.entries, &self.starts, hash)
     }
 
+    /// Whether a hash may have more entries than one, by the flags alone; where it is false, it has one at most.
+    pub fn may_repeat(&self, hash: u32) -> bool
+        ensures { OnFalse result (spec.IsOnce self.now hash) }
+    {
+        self.shared.may_have(hash)
+    }
+
     /// Whether objects may have two definers of a name; where it is false, they have one at most.
     pub fn may_share(&self, name: &[u8]) -> bool
         ensures { OnFalse result (spec.HasOneEntryAtMost self.now name.now) }
     {
-        self.entries_of(gnu_hash(name)).len() > 1
+        let hash = gnu_hash(name);
+        self.may_repeat(hash) && self.entries_of(hash).len() > 1
     }
 }
 

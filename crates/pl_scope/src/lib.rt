@@ -22,6 +22,7 @@ mod probe;
 mod reference;
 mod scope;
 mod scope_index;
+mod shared;
 mod short_index;
 mod sorted;
 mod starts;

@@ -1,6 +1,7 @@
 // The definer that a reference finds.
 ghost use Rattle.std.specs.Prelude.{◌≡◌, ◌<◌, ◌==◌, ◌&&◌, length, not, slice_get, vec_len, IfSome, Some, None, [], ◌∷◌};
 ghost use Rattle.std.specs.List.{list_any};
+ghost use Rattle.std.specs.Bool.{OnTrue};
 ghost use Rattle.std.specs.Option.{ForSome, option_map};
 ghost use Rattle.pl_object.specs.SymbolClauses.{version_name};
 ghost use Rattle.pl_sym.specs.Symbol.{is_undefined};
@@ -167,6 +168,27 @@ fn matching_by_index(
     matching_in_block(&block, wanted.version)
 }
 
+/// The index of an object's symbol that matches, among some symbols that have all definers of the name.
+fn matching_listed(
+    object: &Object,
+    wanted: &Wanted<'_>,
+    versions: Option<&VersionIndex<'_>>,
+    among: &[Entry],
+) -> Option<u32>
+    requires versions { block.AreVersionsOf object.now versions }
+    requires among { folder.HaveDefiners object.now wanted.now among.now }
+    ensures { result ≡ probing.matching_for object.now wanted.now }
+{
+    let block = Block {
+        object,
+        name: wanted.name,
+        class: wanted.class,
+        versions,
+        place: Place::Among(among),
+    };
+    matching_in_block(&block, wanted.version)
+}
+
 /// The index of a member's symbol that matches, among the member's own definers under the name's hash, which are of one list of the scope.
 fn matching_among(
     object: &Object,
@@ -182,14 +204,7 @@ fn matching_among(
     ensures { result ≡ probing.matching_for object.now wanted.now }
 {
     let versions = versions_at(definers, member);
-    let block = Block {
-        object,
-        name: wanted.name,
-        class: wanted.class,
-        versions: Some(versions),
-        place: Place::Among(among),
-    };
-    matching_in_block(&block, wanted.version)
+    matching_listed(object, wanted, Some(versions), among)
 }
 
 /// The index of a member's symbol that matches, by one list of the scope.
@@ -411,27 +426,6 @@ fn best_at(
     }
 }
 
-/// The index of an object's symbol that matches, among some symbols that have all definers of the name.
-fn matching_listed(
-    object: &Object,
-    wanted: &Wanted<'_>,
-    versions: Option<&VersionIndex<'_>>,
-    among: &[Entry],
-) -> Option<u32>
-    requires versions { block.AreVersionsOf object.now versions }
-    requires among { folder.HaveDefiners object.now wanted.now among.now }
-    ensures { result ≡ probing.matching_for object.now wanted.now }
-{
-    let block = Block {
-        object,
-        name: wanted.name,
-        class: wanted.class,
-        versions,
-        place: Place::Among(among),
-    };
-    matching_in_block(&block, wanted.version)
-}
-
 /// The index of an object's symbol that matches, where no other than one can.
 fn matching_alone(object: &Object, wanted: &Wanted<'_>, symbol: u32) -> Option<u32>
     requires { folder.IsOnlyDefiner object.now wanted.now.name.now wanted.now.class symbol }
@@ -477,7 +471,7 @@ fn best_alone(
         (option_map (λ x. x.now) wanted.now.version) start None member }
 {
     if is_better(start, None, member) {
-        in_member_alone(scope, wanted, member, symbol).or(None)
+        in_member_alone(scope, wanted, member, symbol)
     } else {
         None
     }
@@ -547,17 +541,45 @@ fn first_listed(
     best
 }
 
-/// The matching definer of the first member from one on that has one, by an index of the folder: where it has one entry under the name's hash that symbol alone is looked at, else the members of the entries are asked.
+/// Whether a reference's own symbol defines the wanted name, and no other of the folder has the name's hash: the flags of an index tell it, and no entry is looked for.
+fn is_only_definer(
+    scope: &Scope<'_>,
+    reference: Reference,
+    wanted: &Wanted<'_>,
+    among: &Among<'_>,
+) -> bool
+    requires within { reference.member < length scope.now }
+    requires wanted { probing.IsWanted wanted.now }
+    requires index { folder.IsIndexAmong (objects scope.now) among.now }
+    ensures { OnTrue result (folder.IsOnlyEntry among.now wanted.now.gnu reference.member
+        reference.symbol) }
+{
+    if among.index.may_repeat(wanted.gnu) {
+        return false;
+    }
+    let object = scope.object(reference.member);
+    match object.symbols.as_slice().get(reference.symbol as usize) {
+        None => false,
+        Some(symbol) => defines(object, wanted.name, Class::Other, symbol),
+    }
+}
+
+/// The matching definer of the first member from one on that has one, by an index of the folder: where the name's hash has one entry that symbol alone is looked at, else the members of the entries are asked.
 fn first_among(
     scope: &Scope<'_>,
+    reference: Reference,
     wanted: &Wanted<'_>,
     start: u32,
     among: &Among<'_>,
 ) -> Option<Found>
+    requires within { reference.member < length scope.now }
     requires wanted { probing.IsWanted wanted.now }
     requires index { folder.IsIndexAmong (objects scope.now) among.now }
     ensures { result ≡ spec.first_match scope.now wanted.now start }
 {
+    if is_only_definer(scope, reference, wanted, among) {
+        return best_alone(scope, wanted, start, reference.member, reference.symbol);
+    }
     let entries = among.index.entries_of(wanted.gnu);
     if entries.len() == 1 {
         first_alone(scope, wanted, start, among, &entries[0])
@@ -567,7 +589,14 @@ fn first_among(
 }
 
 /// The matching definer of the first member from one on that has one.
-fn first_from(scope: &Scope<'_>, wanted: &Wanted<'_>, start: u32, way: Way<'_, '_>) -> Option<Found>
+fn first_from(
+    scope: &Scope<'_>,
+    reference: Reference,
+    wanted: &Wanted<'_>,
+    start: u32,
+    way: Way<'_, '_>,
+) -> Option<Found>
+    requires within { reference.member < length scope.now }
     requires wanted { probing.IsWanted wanted.now }
     requires way { folder.IsWay (objects scope.now) way }
     ensures { result ≡ spec.first_match scope.now wanted.now start }
@@ -575,7 +604,7 @@ fn first_from(scope: &Scope<'_>, wanted: &Wanted<'_>, start: u32, way: Way<'_, '
     match way {
         Way::Short(definers) => first_short(scope, wanted, start, definers),
         Way::Indexed(definers) => first_indexed(scope, wanted, start, definers),
-        Way::Among(among) => first_among(scope, wanted, start, among),
+        Way::Among(among) => first_among(scope, reference, wanted, start, among),
         _ => first_in_order(scope, wanted, start, way),
     }
 }
@@ -597,7 +626,7 @@ fn in_order(
         (spec.searched object.now reference (length scope.now)) }
 {
     if reference.kind == R_X86_64_COPY {
-        return first_from(scope, wanted, 1, way);
+        return first_from(scope, reference, wanted, 1, way);
     }
     if object.symbolic {
         let found = in_member(scope, wanted, reference.member, way);
@@ -605,7 +634,7 @@ fn in_order(
             return found;
         }
     }
-    first_from(scope, wanted, 0, way)
+    first_from(scope, reference, wanted, 0, way)
 }
 
 /// The name of the version that a version word of a member stands for, by an index of the scope.
