@@ -33,6 +33,10 @@ of_object name class version member (Some o) = found_in member (matching o name 
 unfoldable pub in_member : List Object → List ℕ → Class → Option (List ℕ) → ℕ → Option Found
 in_member objects name class version member = of_object name class version member (slice_get objects member)
 
+-- the matching definer of one member, of what is wanted
+abbrev pub in_member_for : Walked → Wanted → ℕ → Option Found
+in_member_for scope w member = in_member (objects scope) w.name.now w.class (option_map (λ x. x.now) w.version) member
+
 -- that of the first of these members that has one
 unfoldable pub first_in : List Object → List ℕ → Class → Option (List ℕ) → List ℕ → Option Found
 first_in objects name class version [] = None

@@ -1,7 +1,7 @@
 -- The definers of all members by keys of their names, and the search that asks the members under a key alone.
 use Rattle.std.specs.Prelude.{◌≡◌, ◌≤◌, ◌<◌, ◌/◌, ◌^◌, ℕ, Bool, true, false, ◌&&◌, ◌==◌, nat_le, nat_lt, List, [], ◌∷◌, ◌++◌, length, slice_get, Option, Some, None, IsSome, if◌then◌else◌}
 use Rattle.std.specs.List.{All, list_any}
-use Rattle.std.specs.Option.{option_or}
+use Rattle.std.specs.Option.{option_map, option_or}
 use Rattle.std.specs.List.Sorted.{IsNonDecreasingBy}
 use Rattle.pl_sym.specs.Definers.{is_definer}
 use Rattle.pl_sym.specs.declared.symbol.Symbol.{Symbol}
@@ -14,12 +14,15 @@ use Rattle.pl_scope.specs.Definers.{AreDefiners}
 use Rattle.pl_scope.specs.Entries.{is_entry, has_key, has_value}
 use Rattle.pl_scope.specs.Finds.{in_member}
 use Rattle.pl_scope.specs.Numbers.{key_of, AreNumbersOf}
+use Rattle.pl_scope.specs.Scope.{objects}
 use Rattle.pl_scope.specs.VersionIndex.{IsVersionIndex, first_named, names_in}
+use Rattle.pl_scope.specs.Walk.{Walked}
 use Rattle.pl_scope.specs.declared.entries.Entry.{Entry}
 use Rattle.pl_scope.specs.declared.found.Found.{Found}
 use Rattle.pl_scope.specs.declared.scope_index.Own.{Own}
 use Rattle.pl_scope.specs.declared.scope_index.ScopeIndex.{ScopeIndex}
 use Rattle.pl_scope.specs.declared.numbers.Numbers.{Numbers}
+use Rattle.pl_scope.specs.declared.wanted.Wanted.{Wanted}
 
 -- ---- the index
 
@@ -87,6 +90,10 @@ is_better start (Some f) member = nat_le start member && nat_lt member f.member
 abbrev pub best_of : List Object → List ℕ → Class → Option (List ℕ) → ℕ → Option Found → ℕ → Option Found
 best_of objects name class version start best member =
     if is_better start best member then option_or (in_member objects name class version member) best else best
+
+-- what is found with one member more, of what is wanted
+abbrev pub best_for : Walked → Wanted → ℕ → Option Found → ℕ → Option Found
+best_for scope w start best member = best_of (objects scope) w.name.now w.class (option_map (λ x. x.now) w.version) start best member
 
 -- what a search has found from a member on, after it has asked some members: the definer of the first of them that has one
 pub record IsBest (objects : List Object) (name : List ℕ) (class : Class) (version : Option (List ℕ)) (start : ℕ) (asked : List Entry) (best : Option Found) : Type 0 where

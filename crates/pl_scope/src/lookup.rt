@@ -228,8 +228,7 @@ fn in_member(scope: &Scope<'_>, wanted: &Wanted<'_>, member: u32, way: Way<'_, '
     requires within { member < length scope.now }
     requires wanted { probing.IsWanted wanted.now }
     requires way { folder.IsWay (objects scope.now) way }
-    ensures { result ≡ spec.in_member (objects scope.now) wanted.now.name.now wanted.now.class
-        (option_map (λ x. x.now) wanted.now.version) member }
+    ensures { result ≡ spec.in_member_for scope.now wanted.now member }
 {
     let object = scope.object(member);
     let matched = match way {
@@ -285,8 +284,7 @@ fn best_of(
     requires within { member < length scope.now }
     requires wanted { probing.IsWanted wanted.now }
     requires way { folder.IsWay (objects scope.now) way }
-    ensures { result ≡ index.best_of (objects scope.now) wanted.now.name.now wanted.now.class
-        (option_map (λ x. x.now) wanted.now.version) start best member }
+    ensures { result ≡ index.best_for scope.now wanted.now start best member }
 {
     if is_better(start, best, member) {
         in_member(scope, wanted, member, way).or(best)
@@ -334,8 +332,7 @@ fn in_member_under(
     requires within { member < length scope.now }
     requires wanted { probing.IsWanted wanted.now }
     requires under { short.AreUnderName (objects scope.now) wanted.now hits }
-    ensures { result ≡ spec.in_member (objects scope.now) wanted.now.name.now wanted.now.class
-        (option_map (λ x. x.now) wanted.now.version) member }
+    ensures { result ≡ spec.in_member_for scope.now wanted.now member }
 {
     let object = scope.object(member);
     let among = under(hits.entries, pair(mixed(wanted.gnu), member));
@@ -355,8 +352,7 @@ fn best_of_under(
     requires within { member < length scope.now }
     requires wanted { probing.IsWanted wanted.now }
     requires under { short.AreUnderName (objects scope.now) wanted.now hits }
-    ensures { result ≡ index.best_of (objects scope.now) wanted.now.name.now wanted.now.class
-        (option_map (λ x. x.now) wanted.now.version) start best member }
+    ensures { result ≡ index.best_for scope.now wanted.now start best member }
 {
     if is_better(start, best, member) {
         in_member_under(scope, wanted, member, hits).or(best)
@@ -449,8 +445,7 @@ fn in_member_alone(
     requires within { member < length scope.now }
     requires alone { folder.IsOnlyIn (objects scope.now) member wanted.now.name.now
         wanted.now.class symbol }
-    ensures { result ≡ spec.in_member (objects scope.now) wanted.now.name.now wanted.now.class
-        (option_map (λ x. x.now) wanted.now.version) member }
+    ensures { result ≡ spec.in_member_for scope.now wanted.now member }
 {
     let object = scope.object(member);
     found_in(member, matching_alone(object, wanted, symbol))
@@ -467,8 +462,7 @@ fn best_alone(
     requires within { member < length scope.now }
     requires alone { folder.IsOnlyIn (objects scope.now) member wanted.now.name.now
         wanted.now.class symbol }
-    ensures { result ≡ index.best_of (objects scope.now) wanted.now.name.now wanted.now.class
-        (option_map (λ x. x.now) wanted.now.version) start None member }
+    ensures { result ≡ index.best_for scope.now wanted.now start None member }
 {
     if is_better(start, None, member) {
         in_member_alone(scope, wanted, member, symbol)
