@@ -2,7 +2,7 @@
 //!
 //! A name may be prelinked where its walk has no refusal, each member has a form, and a program's members link; it is current where it and each library of its walk are prelinked as they are planned, with lists that tell their walks. What is planned is what law_sound defines of the folder that has the files.
 //!
-//! Which relocations of a library give the same in every walk of the folder is found once: where at most one object of the folder defines the name to which a relocation refers, every walk that holds both objects finds the same symbol (System V gABI chapter 5, "Shared Object Dependencies"). So programs that share libraries look up the remaining ones alone.
+//! Which relocations of a library give the same in every walk of the folder is found once: where at most one symbol of the folder is defined under the hash of the name to which a relocation refers, every walk that holds both objects finds the same symbol (System V gABI chapter 5, "Shared Object Dependencies"). So programs that share libraries look up the remaining ones alone.
 #![tactic(auto)]
 
 mod calls;

@@ -107,7 +107,7 @@ fn is_without_symbol(kind: u32) -> bool
     kind == R_X86_64_RELATIVE || kind == R_X86_64_NONE
 }
 
-/// Whether a reference of the first member finds a symbol with an address, and its name has one object at most that defines it.
+/// Whether a reference of the first member finds a symbol with an address, and no second symbol of the folder is defined under the hash of its name.
 fn is_settled(index: &Index, own: &Scope<'_>, reference: Reference, found: Found) -> bool
     requires reference { IsSymbol (objects own.now) reference.member reference.symbol }
     requires found { finds (objects own.now) reference ≡ Some found }
@@ -122,7 +122,7 @@ fn is_settled(index: &Index, own: &Scope<'_>, reference: Reference, found: Found
     !index.may_share(name)
 }
 
-/// Whether a relocation of a library, the first member of its own walk, is known to give the same in every walk of the folder that holds the library: it refers to no symbol, or it gives the address of a symbol that no second object of the folder defines and that it finds in the own walk and that is not thread-local. `found` is what it finds there.
+/// Whether a relocation of a library, the first member of its own walk, is known to give the same in every walk of the folder that holds the library: it refers to no symbol, or it gives the address of a symbol that it finds in the own walk, that is not thread-local, and that alone of the folder is defined under the hash of its name. `found` is what it finds there.
 fn gives_one_word(index: &Index, own: &Scope<'_>, reloc: &Reloc, found: Option<Found>) -> bool
     requires reference { IsSymbol (objects own.now) 0 reloc.now.symbol }
     requires found { IsSought (objects own.now) (value.reference 0 reloc.now) found }

@@ -103,7 +103,7 @@ fn row_with(meaning: &Meaning, held: u64) -> Option<ConflictRow>
     })
 }
 
-/// Adds the rows of a member's remaining relocations, each looked up once; or the first relocation of the member that has no value. The others have one.
+/// Adds the rows of a member's remaining relocations; or the first relocation of the member that has no value. The others have one. Each is looked up again, as it was when the program was linked: what those of all programs find may take more memory than the folder.
 fn add_rows(
     linking: &WalkLinking<'_, '_>,
     member: u32,
@@ -134,7 +134,7 @@ fn is_near_word(ranges: &Ranges, meaning: &Meaning) -> bool
     matches!(meaning.word, Word::Put(_)) && ranges.is_near(meaning.start)
 }
 
-/// Adds the words that a member's relocations give in the ranges from which the program copies. All have values.
+/// Adds the words that a member's relocations give in the ranges from which the program copies. All have values. Those near a range are looked up again, whether they remain or not: few programs copy, and what they copy is small.
 fn add_near(
     linking: &WalkLinking<'_, '_>,
     member: u32,

@@ -58,7 +58,7 @@ impl<'t> Numbered<'t> {
         }
     }
 
-    /// The scope of the walk of a row, with the places of its members.
+    /// The scope of the walk of a row, with the places of its members. It is made again, as it was when the name was linked: the scopes of all names would have as many names as all walks have members.
     pub fn placed(&self, alloc: Global, row: usize) -> Result<PlacedWalk<'t>, AllocError>
         requires { spec.IsNumbered self.now }
         ensures { IfOk result (spec.IsPlacedWalk self.now row) }

@@ -118,7 +118,7 @@ fn file_with(
     }
 }
 
-/// The prelinked file of the program of a row that may be prelinked, in a version, and how many conflict rows it has; None where the members of its walk cannot be prelinked together, thread-local storage is too large, a relocation has no value, or the file is longer than a folder stores. Each own relocation has been looked up; each remaining one of a library, and each whose place is near what the program copies, is looked up here. What is held is told of all libraries of the walk.
+/// The prelinked file of the program of a row that may be prelinked, in a version, and how many conflict rows it has; None where the members of its walk cannot be prelinked together, thread-local storage is too large, a relocation has no value, or the file is longer than a folder stores. Each own relocation has been looked up; each remaining one of a library, and each whose place is near what the program copies, is looked up again here, where its value is needed, since what they find is not kept. What is held is told of all libraries of the walk.
 pub fn program_file(
     alloc: Global,
     work: &Work<'_>,

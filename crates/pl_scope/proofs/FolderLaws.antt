@@ -21,7 +21,7 @@ use Rattle.pl_scope.specs.ShortIndex.{mixed}
 use Rattle.pl_scope.specs.Entries.{has_value}
 use Rattle.pl_scope.specs.Matching.{defines}
 use Rattle.pl_scope.specs.ScopeIndex.{IsBest}
-use Rattle.pl_scope.specs.Folder.{entries_at, all_from, all_entries, order_of, AreSmallRows, IsFolderIndex, position_of, position_in, placed, is_at, is_placed, IsIndexAmong, IsOnlyEntry, IsOnlyDefiner, IsOnlyIn, best_at}
+use Rattle.pl_scope.specs.Folder.{entries_at, all_from, all_entries, IsFolderIndex, position_of, position_in, placed, is_at, is_placed, IsIndexAmong, IsOnlyEntry, IsOnlyDefiner, IsOnlyIn, best_at}
 use Rattle.pl_scope.specs.declared.folder.Among.{Among}
 use Rattle.pl_scope.specs.declared.entries.Entry.{Entry as Placed}
 use Rattle.pl_scope.specs.declared.index.Entry.{Entry}
@@ -29,7 +29,7 @@ use Rattle.pl_scope.specs.declared.found.Found.{Found}
 use Rattle.pl_scope.specs.declared.wanted.Wanted.{Wanted}
 use Rattle.pl_scope.proofs.FoundLaws.{member_defines}
 use Rattle.pl_scope.proofs.MatchingLaws.{named_by}
-use Rattle.pl_scope.proofs.IndexLaws.{made_all, made_small, made_within}
+use Rattle.pl_scope.proofs.IndexLaws.{made_all, made_small}
 use Rattle.pl_scope.proofs.ScopeIndexLaws.{best_none, best_push, best_is}
 
 -- ---- the definers of all objects
@@ -47,24 +47,6 @@ pub all_done : (os : List (Option Object)) (row : ℕ) (front : List Entry) → 
 unfolding all_from
 all_done os row front le so_far = sym (append-nil front) ∙ ap (λ (xs : List Entry). front ++ xs) (sym (at_drop_all (all_from row) os row le)) ∙ so_far
 
-at_within : (row n : ℕ) (o : Option Object) → row < n → All (λ e. e.member < n) (entries_at row o)
-at_within row n None lt = All-nil (λ (e : Entry). e.member < n)
-at_within row n (Some o) lt =
-    made_all (λ (e : Entry). e.member < n) o row 0 o.symbols (λ j s. made_within row n j s (is_definer s Other (is_program o.kind)) lt)
-
-all_within : (row : ℕ) (os : List (Option Object)) → All (λ e. e.member < row + length os) (all_from row os)
-unfolding all_from
-all_within row [] = All-nil (λ (e : Entry). e.member < row + 0)
-all_within row (o ∷ os) =
-    let n = row + length (o ∷ os) in
-    let same : row + 1 + length os ≡ n = omega arith in
-    All-append (λ (e : Entry). e.member < n) (entries_at row o) (all_from (row + 1) os) (at_within row n o (omega arith))
-    (subst (λ (k : ℕ). All (λ (e : Entry). e.member < k) (all_from (row + 1) os)) same (all_within (row + 1) os))
-
-pub rows_are : (os : List (Option Object)) (es : List Entry) → length os ≤ 4294967296 → es ≡ all_entries os → AreSmallRows es
-rows_are os es few is =
-    subst (λ (xs : List Entry). AreSmallRows xs) (sym is) (λ k d at. let lt = all_within 0 os k d at in omega (arith, lt, few))
-
 at_small : (row : ℕ) (o : Option Object) → All (λ e. e.hash < 4294967296) (entries_at row o)
 at_small row None = All-nil (λ (e : Entry). e.hash < 4294967296)
 at_small row (Some o) =
@@ -77,14 +59,6 @@ all_small row (o ∷ os) = All-append (λ (e : Entry). e.hash < 4294967296) (ent
 
 pub hashes_are : (os : List (Option Object)) (es : List Entry) → es ≡ all_entries os → AreSmallHashes es
 hashes_are os es is = subst (λ (xs : List Entry). AreSmallHashes xs) (sym is) (all_small 0 os)
-
--- ---- their order
-
-pub hashes_rise : (es : List Entry) → AreSmallRows es → IsNonDecreasingBy (λ e. order_of e) es → IsNonDecreasingBy (λ e. mixed e.hash) es
-hashes_rise es rows up i j d le lt =
-    let at = up i j d le lt in
-    let row = rows j d lt in
-    omega (arith, at, row)
 
 -- ---- the index
 

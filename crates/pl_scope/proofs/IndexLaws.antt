@@ -77,10 +77,6 @@ pub made_small : (m j : ℕ) (s : Symbol) (b : Bool) → IfSome (cond b (Some (r
 made_small m j s true = gnu_small s.name
 made_small m j s false = tt
 
-pub made_within : (m n j : ℕ) (s : Symbol) (b : Bool) → m < n → IfSome (cond b (Some (record { hash = gnu s.name; member = m; symbol = j })) None) (λ (e : Entry). e.member < n)
-made_within m n j s true lt = lt
-made_within m n j s false lt = tt
-
 -- ---- mixed hashes
 
 -- a number of 32 bits from its mixed hash: the two factors give 1 modulo 2^32

@@ -1,6 +1,6 @@
 -- The definers of the objects of a folder by the hashes of their names, and a scope of some of these objects.
-use Rattle.std.specs.Prelude.{◌≡◌, ◌≤◌, ◌<◌, ⊤, ◌+◌, ◌*◌, ℕ, Bool, true, false, ◌&&◌, ◌==◌, List, [], ◌∷◌, ◌++◌, length, slice_get, Option, Some, None}
-use Rattle.std.specs.List.{All, list_any}
+use Rattle.std.specs.Prelude.{◌≡◌, ◌≤◌, ◌<◌, ⊤, ◌+◌, ℕ, Bool, true, false, ◌&&◌, ◌==◌, List, [], ◌∷◌, ◌++◌, length, slice_get, Option, Some, None}
+use Rattle.std.specs.List.{list_any}
 use Rattle.std.specs.List.Sorted.{IsPermutation}
 use Rattle.std.specs.Option.{option_map}
 use Rattle.pl_elf.specs.Kinds.{is_program}
@@ -9,8 +9,10 @@ use Rattle.pl_object.specs.declared.object.Object.{Object}
 use Rattle.pl_scope.specs.Index.{entries_in, entries_of}
 use Rattle.pl_scope.specs.Entries.{has_value}
 use Rattle.pl_scope.specs.Matching.{defines}
+use Rattle.pl_scope.specs.Scope.{objects}
 use Rattle.pl_scope.specs.ScopeIndex.{HasOwn, IsIndex, best_of}
-use Rattle.pl_scope.specs.ShortIndex.{HasShort, IsShortIndex, mixed}
+use Rattle.pl_scope.specs.ShortIndex.{HasShort, IsShortIndex}
+use Rattle.pl_scope.specs.Walk.{Walked}
 use Rattle.pl_scope.specs.declared.entries.Entry.{Entry as Placed}
 use Rattle.pl_scope.specs.declared.folder.Among.{Among}
 use Rattle.pl_scope.specs.declared.found.Found.{Found}
@@ -38,14 +40,6 @@ all_from row (o ∷ os) = entries_at row o ++ all_from (row + 1) os
 
 abbrev pub all_entries : List (Option Object) → List Entry
 all_entries objects = all_from 0 objects
-
--- mixed hashes count before rows
-abbrev pub order_of : Entry → ℕ
-order_of e = mixed e.hash * 4294967296 + e.member
-
--- the number of a row has 32 bits
-abbrev pub AreSmallRows : List Entry → Type 0
-AreSmallRows es = All (λ e. e.member < 4294967296) es
 
 -- each definer of each object is there once, under its name's hash, and nothing else is
 abbrev pub IsFolderIndex : List (Option Object) → List Entry → Type 0
@@ -106,6 +100,10 @@ HaveDefiners o w es = (i : ℕ) (s : Symbol) → slice_get o.symbols i ≡ Some 
 -- no other symbol than that of a number defines a name, in the object of a member
 abbrev pub IsOnlyIn : List Object → ℕ → List ℕ → Class → ℕ → Type 0
 IsOnlyIn objects member name class number = (o : Object) → slice_get objects member ≡ Some o → IsOnlyDefiner o name class number
+
+-- of a member of a scope no other symbol than that of a number defines what is wanted
+abbrev pub IsOnlyFor : Walked → Wanted → ℕ → ℕ → Type 0
+IsOnlyFor scope w member number = IsOnlyIn (objects scope) member w.name.now w.class number
 
 -- what is found with one row more
 abbrev pub best_at : List Object → Wanted → ℕ → Option Found → Option ℕ → Option Found

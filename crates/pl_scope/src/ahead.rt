@@ -13,10 +13,10 @@ use std::alloc::{AllocError, Global};
 /// The search for the name of a symbol in one list of definers.
 #[derive(Clone, Copy)]
 struct Search {
-    /// The mixed hash of the name.
+    /// The mixed hash of the name; 0 where the symbol is defined.
     hash: u32,
 
-    /// Where it begins; none where the table says it, or where the symbol is defined.
+    /// Where it goes on; none where the symbol is defined, or where a name of another size stands there: then it begins as any other does.
     place: Option<u32>,
 }
 

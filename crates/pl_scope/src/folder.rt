@@ -65,7 +65,6 @@ fn all_entries(alloc: Global, objects: &[Option<&Object>]) -> Result<Vec<Entry>,
     requires { length objects.now < 2 ^ 32 }
     ensures all { IfOk result (λ v. v.items ≡ spec.all_entries
         (map (option_map (λ o. o.now)) objects.now)) }
-    ensures rows { IfOk result (λ v. spec.AreSmallRows v.items) }
     ensures hashes { IfOk result (λ v. index.AreSmallHashes v.items) }
 {
     let mut entries = Vec::new(alloc);
@@ -75,20 +74,12 @@ fn all_entries(alloc: Global, objects: &[Option<&Object>]) -> Result<Vec<Entry>,
     Ok(entries)
 }
 
-/// By what entries are put into order: their mixed hashes, then their rows.
-fn order_of(entry: &Entry) -> u64
-    ensures { result ≡ spec.order_of entry.now }
-{
-    u64::from(mixed(entry.hash)) * 4_294_967_296 + u64::from(entry.member)
-}
-
-/// Puts entries into the order of their mixed hashes, and those of a hash into the order of their rows.
-fn sort_rows(entries: &mut Vec<Entry>)
-    requires { spec.AreSmallRows entries.old.items }
+/// Puts entries into the order of their mixed hashes.
+fn sort_by_hash(entries: &mut Vec<Entry>)
     ensures same { IsPermutation entries.old.items entries.new.items }
     ensures rising { index.IsRising entries.new.items }
 {
-    entries.sort_unstable_by_key(|entry| order_of(entry));
+    entries.sort_unstable_by_key(|entry| mixed(entry.hash));
 }
 
 impl Index {
@@ -100,7 +91,7 @@ impl Index {
             return Err(NoMemory);
         }
         let mut entries = all_entries(alloc, objects)?;
-        sort_rows(&mut entries);
+        sort_by_hash(&mut entries);
         entries.shrink_to_fit();
         let starts = starts_of(alloc, &entries)?;
         let shared = Shared::of(alloc, &entries)?;
@@ -111,7 +102,7 @@ impl Index {
         })
     }
 
-    /// The entries of a hash, in the order of their rows.
+    /// The entries of a hash.
     pub fn entries_of(&self, hash: u32) -> &[Entry]
         ensures { result.now ≡ index.entries_of self.now hash }
     {
@@ -122,10 +113,10 @@ impl Index {
     pub fn may_repeat(&self, hash: u32) -> bool
         ensures { OnFalse result (spec.IsOnce self.now hash) }
     {
-        self.shared.may_have(hash)
+        self.shared.may_repeat(hash)
     }
 
-    /// Whether objects may have two definers of a name; where it is false, they have one at most.
+    /// Whether objects may have two definers of a name; where it is false, they have one at most. The name is hashed and looked for again here, after the look-up of the reference that asks: handed on from there, the entries took no less time.
     pub fn may_share(&self, name: &[u8]) -> bool
         ensures { OnFalse result (spec.HasOneEntryAtMost self.now name.now) }
     {

@@ -1,5 +1,5 @@
 // The definers of objects, by the hashes of their names.
-ghost use Rattle.std.specs.Prelude.{◌≡◌, ◌≤◌, ◌<◌, ◌^◌, ◌++◌, true, false, nat_lt, length, IfSome, OnOk};
+ghost use Rattle.std.specs.Prelude.{◌≡◌, ◌≤◌, ◌<◌, ◌++◌, true, false, nat_lt, length, IfSome, OnOk};
 ghost use Rattle.std.specs.Bool.{OnTrue};
 ghost use Rattle.std.specs.List.Sorted.{IsPartitionPoint};
 ghost use Rattle.pl_scope.specs.Index as spec;
@@ -15,15 +15,16 @@ use std::alloc::{AllocError, Global};
 /// So many entries are looked at before the list is halved.
 const STEPS: usize = 12;
 
-/// A definer of a member, under the hash of its name.
+/// A definer of an object, under the hash of its name.
 #[derive(Clone, Copy)]
 pub struct Entry {
     /// The hash of the definer's name in a GNU table.
     pub hash: u32,
 
+    /// The number of the object: in the index of a folder, the row of its file.
     pub member: u32,
 
-    /// The number of the definer among the member's symbols.
+    /// The number of the definer among the object's symbols.
     pub symbol: u32,
 }
 

@@ -49,7 +49,7 @@ pub enum Way<'i, 'a> {
     /// Those that have a definer under the name's key, by an index of the scope, each through its own definers under that key.
     Indexed(&'i ScopeIndex<'a>),
 
-    /// Those that have a definer under the name's hash, by an index of the folder whose objects they are, each by a table.
+    /// Those that have a definer under the name's hash, by an index of the folder whose objects they are: where the hash has one entry its symbol alone is looked at, else each member is asked by a table.
     Among(&'i Among<'i>),
 
     /// One after the other, each through all its symbols.
@@ -240,7 +240,7 @@ fn in_member(scope: &Scope<'_>, wanted: &Wanted<'_>, member: u32, way: Way<'_, '
     found_in(member, matched)
 }
 
-/// The matching definer of the first member from one on that has one.
+/// The matching definer of the first member from one on that has one, where all members are asked, one after the other.
 #[tactic(auto, using(crate::proofs::SearchLaws::first_more, crate::proofs::SearchLaws::first_done))]
 fn first_in_order(
     scope: &Scope<'_>,
@@ -272,7 +272,7 @@ fn is_better(start: u32, best: Option<Found>, member: u32) -> bool
     }
 }
 
-/// The matching definer of a member where it is better than what was found, which else stays.
+/// The matching definer of a member, by a way to search, where it is better than what was found, which else stays.
 fn best_of(
     scope: &Scope<'_>,
     wanted: &Wanted<'_>,
@@ -340,7 +340,7 @@ fn in_member_under(
     found_in(member, matched)
 }
 
-/// The matching definer of a member where it is better than what was found, which else stays.
+/// The matching definer of a member, among its entries under the name's hash, where it is better than what was found, which else stays.
 fn best_of_under(
     scope: &Scope<'_>,
     wanted: &Wanted<'_>,
@@ -404,7 +404,7 @@ fn first_short(
     best
 }
 
-/// The matching definer of an entry's member, where the scope has it and it is better than what was found, which else stays.
+/// The matching definer of a member, if there is one, where it is better than what was found, which else stays.
 fn best_at(
     scope: &Scope<'_>,
     wanted: &Wanted<'_>,
@@ -443,8 +443,7 @@ fn in_member_alone(
     symbol: u32,
 ) -> Option<Found>
     requires within { member < length scope.now }
-    requires alone { folder.IsOnlyIn (objects scope.now) member wanted.now.name.now
-        wanted.now.class symbol }
+    requires alone { folder.IsOnlyFor scope.now wanted.now member symbol }
     ensures { result ≡ spec.in_member_for scope.now wanted.now member }
 {
     let object = scope.object(member);
@@ -460,8 +459,7 @@ fn best_alone(
     symbol: u32,
 ) -> Option<Found>
     requires within { member < length scope.now }
-    requires alone { folder.IsOnlyIn (objects scope.now) member wanted.now.name.now
-        wanted.now.class symbol }
+    requires alone { folder.IsOnlyFor scope.now wanted.now member symbol }
     ensures { result ≡ index.best_for scope.now wanted.now start None member }
 {
     if is_better(start, None, member) {
@@ -480,8 +478,7 @@ fn best_at_alone(
     symbol: u32,
 ) -> Option<Found>
     requires within { ForSome member (λ m. m < length scope.now) }
-    requires alone { ForSome member (λ m. folder.IsOnlyIn (objects scope.now) m
-        wanted.now.name.now wanted.now.class symbol) }
+    requires alone { ForSome member (λ m. folder.IsOnlyFor scope.now wanted.now m symbol) }
     ensures { result ≡ folder.best_at (objects scope.now) wanted.now start None member }
 {
     match member {
@@ -536,7 +533,7 @@ fn first_listed(
 }
 
 /// Whether a reference's own symbol defines the wanted name, and no other of the folder has the name's hash: the flags of an index tell it, and no entry is looked for.
-fn is_only_definer(
+fn is_only_entry(
     scope: &Scope<'_>,
     reference: Reference,
     wanted: &Wanted<'_>,
@@ -558,7 +555,7 @@ fn is_only_definer(
     }
 }
 
-/// The matching definer of the first member from one on that has one, by an index of the folder: where the name's hash has one entry that symbol alone is looked at, else the members of the entries are asked.
+/// The matching definer of the first member from one on that has one, by an index of the folder. Where the flags tell that the reference's own symbol has the only entry under the name's hash, that symbol alone is looked at, without a search; where the hash has one entry, the entry's symbol alone; else the members of the entries are asked.
 fn first_among(
     scope: &Scope<'_>,
     reference: Reference,
@@ -571,7 +568,7 @@ fn first_among(
     requires index { folder.IsIndexAmong (objects scope.now) among.now }
     ensures { result ≡ spec.first_match scope.now wanted.now start }
 {
-    if is_only_definer(scope, reference, wanted, among) {
+    if is_only_entry(scope, reference, wanted, among) {
         return best_alone(scope, wanted, start, reference.member, reference.symbol);
     }
     let entries = among.index.entries_of(wanted.gnu);
@@ -582,7 +579,7 @@ fn first_among(
     }
 }
 
-/// The matching definer of the first member from one on that has one.
+/// The matching definer of the first member from one on that has one, by a way to search.
 fn first_from(
     scope: &Scope<'_>,
     reference: Reference,

@@ -7,13 +7,13 @@ use crate::index::Entry;
 use crate::short_index::mixed;
 use std::alloc::{AllocError, Global};
 
-/// So many flags there are.
+/// How many flags there are.
 const FLAGS: usize = 32_768;
 
-/// So many hashes have one flag.
+/// How many hashes share a flag. All hashes, 2^32, are FLAGS times as many.
 const OF_A_FLAG: u32 = 131_072;
 
-/// Which hashes may have more entries than one: for each hash a flag, which others share. Most names are defined once, and of these a flag, which the processor has at hand, tells it without a search.
+/// Which hashes may have more entries than one: for each hash a flag, which others share. Most names are defined once, and of these a flag tells it without a search: all flags together stay in the processor's cache.
 #[derive(Drop)]
 pub struct Shared {
     pub flags: Vec<bool>,
@@ -26,7 +26,7 @@ fn flag_of(hash: u32) -> usize
     (mixed(hash) / OF_A_FLAG) as usize
 }
 
-/// Sets the flag of a hash, where that of the entry before is the same.
+/// Sets the flag of an entry's hash, where the entry before has the same hash.
 fn note(flags: &mut [bool], before: u32, hash: u32)
     requires { length flags.old ≡ 32768 }
     ensures long { length flags.new ≡ length flags.old }
@@ -38,7 +38,7 @@ fn note(flags: &mut [bool], before: u32, hash: u32)
     }
 }
 
-/// Sets the flags of the hashes that follow one another in entries.
+/// Sets the flag of each hash that two entries have which follow one another.
 fn note_all(flags: &mut [bool], entries: &[Entry])
     requires { length flags.old ≡ 32768 }
     ensures long { length flags.new ≡ length flags.old }
@@ -50,7 +50,7 @@ fn note_all(flags: &mut [bool], entries: &[Entry])
 }
 
 impl Shared {
-    /// The hashes of entries that have more of them than one. It fails only for want of memory.
+    /// Which hashes may have more entries than one, of entries in the order of their mixed hashes. It fails only for want of memory.
     pub fn of(alloc: Global, entries: &[Entry]) -> Result<Shared, AllocError>
         requires { IsInOrder entries.now }
         ensures { IfOk result (λ shared. spec.AreShared entries.now shared.flags.items) }
@@ -61,7 +61,7 @@ impl Shared {
     }
 
     /// Whether a hash may have more entries than one; where it is false it has one at most.
-    pub fn may_have(&self, hash: u32) -> bool
+    pub fn may_repeat(&self, hash: u32) -> bool
         requires { length self.now.flags.items ≡ 32768 }
         ensures { result ≡ spec.is_flagged self.now.flags.items hash }
     {

@@ -41,7 +41,7 @@ pub struct UnderName<'i, 'a> {
     pub entries: &'i [Entry],
 }
 
-/// A hash spread over all numbers of 32 bits: the hashes of names that differ in their last bytes lie close together.
+/// A hash spread over all numbers of 32 bits, one to one: the hashes of names that differ in their last bytes lie close together.
 pub fn mixed(hash: u32) -> u32
     ensures { result ≡ spec.mixed hash }
 {

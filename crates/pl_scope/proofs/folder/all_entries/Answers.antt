@@ -3,7 +3,7 @@ use Rattle.std.specs.Borrow.{Bor}
 use Rattle.std.specs.Option.{option_map}
 use Rattle.std.proofs.lemmas.List.{length-map, get_or-map}
 use Rattle.pl_object.specs.declared.object.Object.{Object}
-use Rattle.pl_scope.proofs.FolderLaws.{all_more, all_done, hashes_are, rows_are}
+use Rattle.pl_scope.proofs.FolderLaws.{all_more, all_done, hashes_are}
 use Rattle.pl_scope.proofs.folder.all_entries.Goals as goal
 
 abbrev seen : Option (Bor Object) → Option Object
@@ -24,4 +24,4 @@ returns c =
     let objects = c.args.objects.now in
     let long : length (map seen objects) ≡ length objects = length-map objects seen in
     let all = all_done (map seen objects) c.loop-row.row c.loop-row.entries.items (omega (arith, long, c.loop-row-test.false)) c.loop-row.invariant in
-    record { all = all; rows = rows_are (map seen objects) c.loop-row.entries.items (omega (arith, long, c.requires)) all; hashes = hashes_are (map seen objects) c.loop-row.entries.items all }
+    record { all = all; hashes = hashes_are (map seen objects) c.loop-row.entries.items all }

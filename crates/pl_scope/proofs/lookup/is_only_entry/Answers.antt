@@ -6,7 +6,7 @@ use Rattle.pl_sym.specs.declared.symbol.Symbol.{Symbol}
 use Rattle.pl_scope.specs.Folder.{IsOnlyEntry}
 use Rattle.pl_scope.specs.Scope.{objects}
 use Rattle.pl_scope.proofs.FolderLaws.{only_entry}
-use Rattle.pl_scope.proofs.lookup.is_only_definer.Goals as goal
+use Rattle.pl_scope.proofs.lookup.is_only_entry.Goals as goal
 
 pub returns-in-Some : goal.returns-in-Some
 returns-in-Some c =
